@@ -1,0 +1,7 @@
+-- What is true of the definitions in specs/. The crates above cite these laws and open no definition.
+pub mod Below
+pub mod Sets
+pub mod Places
+pub mod Conditions
+pub mod Products
+pub mod Text

@@ -1,0 +1,5 @@
+pub mod Laws
+mod Masks
+mod Tabulated
+mod Primes
+mod Putting

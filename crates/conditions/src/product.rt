@@ -1,0 +1,108 @@
+// Products of tags: a digit to the base 3 for each place, 0 where it is absent, 1 where it is to be
+// completed, 2 where it is to be aborted.
+ghost use mathlib.Core.Path.{_≡_};
+ghost use mathlib.Core.Bool.{false};
+ghost use Prim.Native.Nat.{ℕ, _<_, _≤_, _^_};
+ghost use Rattle.conditions.specs.Places.{places};
+ghost use Rattle.conditions.specs.Conditions.{number, dependsOn};
+ghost use Rattle.conditions.specs.Products.{tagAt, allowed, within, needed, prime, primeFrom, nextPrime};
+use crate::condition::Condition;
+use crate::place::PLACES;
+use crate::place::Place;
+use crate::table::ALLOWED;
+
+// A product, by its number. Digits past the last place say nothing.
+pub struct Product(pub usize);
+
+// What a digit counts, by its place; the last one is the number of products.
+const POWERS: [usize; PLACES + 1] = [1, 3, 9, 27, 81, 243, 729];
+
+pub(crate) fn power(i: usize) -> usize
+    requires { ⌜ i ≤ places ⌝ }
+    ensures { λ r. ⌜ r ≡ 3 ^ i ⌝ }
+{
+    POWERS[i]
+}
+
+impl Product {
+    // How many products there are.
+    pub const COUNT: usize = 729;
+
+    // The assignments that the product allows.
+    pub fn allowed(self) -> Condition
+        ensures { λ r. ⌜ number r ≡ allowed places (self .0) ⌝ }
+    {
+        let p = self.0 % Product::COUNT;
+        Condition(ALLOWED[p])
+    }
+
+    // Whether every assignment that it allows is a member.
+    pub fn within(self, c: Condition) -> bool
+        ensures { λ r. ⌜ r ≡ within places (self .0) (number c) ⌝ }
+    {
+        let allowed = self.allowed();
+        (allowed.0 & !c.0) == 0
+    }
+
+    // What the place counts.
+    pub(crate) fn tag(self, i: usize) -> usize
+        requires { ⌜ i < places ⌝ }
+        ensures { λ r. ⌜ r ≡ tagAt (self .0) i ⌝ }
+    {
+        (self.0 / power(i)) % 3
+    }
+
+    // Whether the place has no tag, or the product with that tag fewer is not within the condition.
+    fn needs(self, c: Condition, i: usize) -> bool
+        requires { ⌜ i < places ⌝ }
+        ensures { λ r. ⌜ r ≡ needed places (self .0) (number c) i ⌝ }
+    {
+        let d = self.tag(i);
+        if d == 0 {
+            return true;
+        }
+        let fewer = Product(self.0 - d * power(i));
+        !fewer.within(c)
+    }
+
+    // Whether it is within the condition, and with no tag fewer is.
+    pub fn is_prime(self, c: Condition) -> bool
+        ensures { λ r. ⌜ r ≡ prime places (self .0) (number c) ⌝ }
+    {
+        if !self.within(c) {
+            return false;
+        }
+        let mut i: usize = 0;
+        while i < PLACES {
+            if !self.needs(c, i) {
+                return false;
+            }
+            i += 1;
+        }
+        true
+    }
+}
+
+impl Condition {
+    // The condition's next prime product from a number on, or the number of products where there is
+    // none: its prime products by rising number.
+    pub fn next_prime(self, from: Product) -> Product
+        ensures { λ r. ⌜ r .0 ≡ nextPrime places (number self) (from .0) ⌝ }
+    {
+        Product(prime_from(self, from.0, Product::COUNT))
+    }
+}
+
+// The lowest number from one on and below a limit whose product is prime, or the limit.
+pub(crate) fn prime_from(c: Condition, from: usize, limit: usize) -> usize
+    ensures { λ r. ⌜ r ≡ primeFrom places (number c) from limit ⌝ }
+{
+    let mut p = from;
+    while p < limit {
+        if Product(p).is_prime(c) {
+            return p;
+        }
+        p += 1;
+    }
+    p
+}
