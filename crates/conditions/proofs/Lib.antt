@@ -2,4 +2,4 @@ pub mod Laws
 mod Masks
 mod Tabulated
 mod Primes
-mod Putting
+pub mod Putting

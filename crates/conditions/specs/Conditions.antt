@@ -18,6 +18,10 @@ ofNumber n = record { 0 = n }
 unfoldable pub full : ℕ → ℕ
 full w = setOf (2 ^ w) (λ a. true)
 
+-- the same in the code: the associated constant FULL
+abbrev pub always : Condition
+always = record { 0 = 0xffff_ffff_ffff_ffff }
+
 -- the assignments in c, in d or in both
 unfoldable pub union : ℕ → ℕ → ℕ → ℕ
 union w c d = setOf (2 ^ w) (λ a. member c a || member d a)

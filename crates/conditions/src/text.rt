@@ -169,6 +169,7 @@ fn put_condition(
 ) -> usize
     requires { ⌜ at < 2 ^ 63 ⌝ }
     ensures { λ r. ⌜ Put (now (buf .entry)) (now (buf .exit)) at r (conditionText places (numberAt numbers) (number c)) ⌝ }
+    ensures { λ r. ⌜ r ≤ at + (8 * places + 2) * 3 ^ places ⌝ }
 {
     let limit = limit(c);
     let mut end = at;
@@ -183,6 +184,7 @@ fn put_condition(
 // How many bytes the number takes in decimal.
 pub fn decimal_len(n: u64) -> usize
     ensures { λ r. ⌜ r ≡ length (decimal n) ⌝ }
+    ensures { λ r. ⌜ r ≤ 20 ⌝ }
 {
     let mut nothing = [0u8; 1];
     put_decimal(&mut nothing[..0], 0, n)
@@ -203,6 +205,7 @@ impl Condition {
     // How many bytes the condition takes as text, where each place has its transaction number.
     pub fn text_len(self, numbers: [TransactionNumber; PLACES]) -> usize
         ensures { λ r. ⌜ r ≡ length (conditionText places (numberAt numbers) (number self)) ⌝ }
+        ensures { λ r. ⌜ r ≤ (8 * places + 2) * 3 ^ places ⌝ }
     {
         let mut nothing = [0u8; 1];
         put_condition(&mut nothing[..0], 0, self, numbers)

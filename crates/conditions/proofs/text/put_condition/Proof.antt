@@ -64,7 +64,7 @@ same-length c = put-length (c .before .loop .inv .0)
 returns : tie.Need-returns Inv-loop μ-loop
 returns c =
     let last : c .before .loop .p ≡ c .before .before .before .limit .result = omega (arith, c .before .loop .inv .1) in
-    condition-put places _ _ _ (c .before .before .before .limit .ensures .1) (c .before .before .before .limit .ensures .0) (rw last at (c .before .loop .inv .0))
+    (condition-put places _ _ _ (c .before .before .before .limit .ensures .1) (c .before .before .before .limit .ensures .0) (rw last at (c .before .loop .inv .0)), omega (arith, c .before .loop .inv .2, c .before .loop .inv .4))
 
 pub put-condition-spec : {M : Type 1} → statement M
 put-condition-spec =

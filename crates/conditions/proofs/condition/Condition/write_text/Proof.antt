@@ -14,16 +14,16 @@ room-requires : tie.Need-room-requires
 room-requires c κs = search needs
 
 returns : tie.Need-returns
-returns c = refused _ _ _ (c .before .before .text-len .ensures) (c .before .room .ensures) (c .if1 .taken)
+returns c = refused _ _ _ (c .before .before .text-len .ensures .0) (c .before .room .ensures) (c .if1 .taken)
 
 put-condition-requires : tie.Need-put-condition-requires
-put-condition-requires c κs = omega (arith, fits (c .before .before .before .before .before .args .buf .now) (c .before .before .before .before .before .args .at) (conditionText places (numberAt (c .before .before .before .before .before .args .numbers)) (c .before .before .before .before .before .args .self .0)) (c .before .before .before .text-len .ensures) (c .before .before .room .ensures) (c .before .if1 .left))
+put-condition-requires c κs = omega (arith, fits (c .before .before .before .before .before .args .buf .now) (c .before .before .before .before .before .args .at) (conditionText places (numberAt (c .before .before .before .before .before .args .numbers)) (c .before .before .before .before .before .args .self .0)) (c .before .before .before .text-len .ensures .0) (c .before .before .room .ensures) (c .before .if1 .left))
 
 same-length : tie.Need-same-length
 same-length c = search needs
 
 returns-2 : tie.Need-returns-2
-returns-2 c = accepted (c .before .before .before .before .before .before .text-len .ensures) (c .before .before .before .before .before .room .ensures) (c .before .before .before .before .if1 .left) (c .before .before .put-condition .ensures)
+returns-2 c = accepted (c .before .before .before .before .before .before .text-len .ensures .0) (c .before .before .before .before .before .room .ensures) (c .before .before .before .before .if1 .left) (c .before .before .put-condition .ensures .0)
 
 pub write-text-spec : {M : Type 1} → statement M
 write-text-spec =

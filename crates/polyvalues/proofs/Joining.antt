@@ -1,0 +1,138 @@
+-- Rows joined one after the other, and answers that there is room or not.
+use mathlib.Core.Path.{_≡_, refl, sym, ap, ap₂, _∙_}
+use mathlib.Core.Bool.{Bool, true, false, not, _||_, true≢false}
+use mathlib.Core.List.{List, [], _∷_, _++_, map}
+use Prim.Native.Nat.{ℕ, zero, suc, _+_, _≤_, _<_, min}
+use native.Mathlib.Omega.{arith}
+use lib.Dec.{leb}
+use lib.ListN.{length, getD, drop, drop-of-length-le, length-map}
+use lib.Seq.{drop-cons, getD-take}
+use borrow.Author.Tests.{leb-true, leb-false}
+use Rattle.conditions.specs.Conditions.{dependsOn}
+use Rattle.conditions.proofs.Laws.Below.{by-cases}
+use Rattle.polyvalues.specs.declared.polyvalue.Pair.{Pair}
+use Rattle.polyvalues.specs.declared.polyvalue.Polyvalue.{Polyvalue}
+use Rattle.polyvalues.specs.declared.polyvalue.Joined.{Joined}
+use Rattle.polyvalues.specs.declared.polyvalue.Cut.{Cut}
+use Rattle.polyvalues.specs.declared.polyvalue.Cut.the-variants.{Reduced, Completed, Aborted}
+use Rattle.polyvalues.specs.Pairs.{pair, assignments, noPair, depends}
+use Rattle.polyvalues.specs.Polyvalues.{room, inUse, packed, fitted}
+use Rattle.polyvalues.specs.Simplify.{join, simplifiedFrom, simplified}
+use Rattle.polyvalues.specs.Operations.{cut, changed, reduce, select}
+use Rattle.polyvalues.proofs.Laws.Simplify.{grows-from, length-simplified}
+use Rattle.polyvalues.proofs.Laws.Operations.{reduce-count}
+use Rattle.polyvalues.proofs.Laws.Packed.{inUse-packed}
+use Rattle.polyvalues.proofs.Inserting.{fitted-yes, fitted-no, in-use-length}
+
+-- ---- answers
+
+-- what was packed is packed
+pub packed-again : (ps : List Pair) {q : Polyvalue} → q ≡ packed ps → q ≡ packed (inUse q)
+packed-again ps e = e ∙ ap packed (sym (ap inUse e ∙ inUse-packed ps))
+
+pub packed-in-use : (ps : List Pair) {q : Polyvalue} → q ≡ packed ps → inUse q ≡ ps
+packed-in-use ps e = ap inUse e ∙ inUse-packed ps
+
+pub fits-yes : (q : Polyvalue) (ps : List Pair) {r : Joined} → r ≡ fitted q ps → r .fits ≡ true → (r .polyvalue ≡ packed ps) × (length ps ≤ room)
+fits-yes q ps {r} e t =
+    by-cases (leb (length ps) room)
+    (λ l. let few : length ps ≤ room = leb-true (length ps) room l in (ap (λ (j : Joined). j .polyvalue) (e ∙ fitted-yes q ps few), few))
+    (λ l. absurd (true≢false (sym t ∙ ap (λ (j : Joined). j .fits) (e ∙ fitted-no q ps (leb-false (length ps) room l)))))
+
+pub fits-no : (q : Polyvalue) (ps : List Pair) {r : Joined} → r ≡ fitted q ps → r .fits ≡ false → room < length ps
+fits-no q ps {r} e t =
+    by-cases (leb (length ps) room)
+    (λ l. absurd (true≢false (sym (ap (λ (j : Joined). j .fits) (e ∙ fitted-yes q ps (leb-true (length ps) room l))) ∙ t)))
+    (λ l. leb-false (length ps) room l)
+
+-- an answer that rests on another polyvalue: the same where it fits, and where not, the one that was handed in
+pub refit-yes : (q t : Polyvalue) (ps : List Pair) {r : Joined} → r ≡ fitted t ps → r .fits ≡ true → r ≡ fitted q ps
+refit-yes q t ps e f = let few = fits-yes t ps e f .1 in e ∙ fitted-yes t ps few ∙ sym (fitted-yes q ps few)
+
+pub refit-no : (q t : Polyvalue) (ps : List Pair) {r : Joined} → r ≡ fitted t ps → r .fits ≡ false → record { fits = false; polyvalue = q } ≡ fitted q ps
+refit-no q t ps e f = sym (fitted-no q ps (fits-no t ps e f))
+
+-- ---- rows
+
+-- a row in use is one of the list
+pub in-use-row : (q : Polyvalue) (i : ℕ) → i < length (inUse q) → getD (inUse q) i noPair ≡ getD (q .pairs) i noPair
+unfolding inUse
+in-use-row q i h = getD-take (q .count) (q .pairs) i noPair (omega (arith, in-use-length q))
+
+-- the row i of what is left is joined
+pub rows-more : (w : ℕ) (f : ℕ → ℕ) (done : List Pair) (q : Polyvalue) (i : ℕ) → i < length (inUse q)
+    → simplifiedFrom w done (changed f (drop i (inUse q)))
+        ≡ simplifiedFrom w (join w (getD (q .pairs) i noPair .value) (f (assignments (getD (q .pairs) i noPair))) done) (changed f (drop (suc i) (inUse q)))
+unfolding simplifiedFrom
+rows-more w f done q i h = rw (drop-cons (inUse q) i noPair h, in-use-row q i h)
+
+pub rows-done : (w : ℕ) (f : ℕ → ℕ) (done rows : List Pair) (i : ℕ) → length rows ≤ i → simplifiedFrom w done (changed f (drop i rows)) ≡ done
+unfolding simplifiedFrom
+rows-done w f done rows i h = rw (drop-of-length-le rows h)
+
+-- one row more without dependence
+pub depends-more : (w : ℕ) (q : Polyvalue) (p i : ℕ) → i < length (inUse q)
+    → depends w (drop i (inUse q)) p ≡ (dependsOn w (assignments (getD (q .pairs) i noPair)) p || depends w (drop (suc i) (inUse q)) p)
+unfolding depends
+depends-more w q p i h = rw (drop-cons (inUse q) i noPair h, in-use-row q i h)
+
+pub depends-done : (w : ℕ) (rows : List Pair) (p i : ℕ) → length rows ≤ i → depends w (drop i rows) p ≡ false
+unfolding depends
+depends-done w rows p i h = rw (drop-of-length-le rows h)
+
+-- ---- reduce and select
+
+module _ (w i : ℕ) {n : Polyvalue} (empty : n ≡ packed []) where
+  pub reduced-rows : (b : Bool) (q : Polyvalue) {r : Joined} → length (inUse q) ≤ room
+      → r ≡ fitted n (simplifiedFrom w (inUse n) (changed (cut w i (Reduced b)) (inUse q))) → r .polyvalue ≡ packed (reduce w i b (inUse q))
+  unfolding reduce simplified
+  reduced-rows b q few e =
+      let is : simplifiedFrom w (inUse n) (changed (cut w i (Reduced b)) (inUse q)) ≡ reduce w i b (inUse q) =
+      ap (λ (done : List Pair). simplifiedFrom w done (changed (cut w i (Reduced b)) (inUse q))) (packed-in-use [] empty) in
+      ap (λ (j : Joined). j .polyvalue) (e ∙ ap (fitted n) is ∙ fitted-yes n (reduce w i b (inUse q)) (omega (arith, reduce-count w i b (inUse q))))
+
+  pub completed-rows : (done : Polyvalue) {r : Joined} → length (inUse done) ≤ room
+      → r ≡ fitted n (simplifiedFrom w (inUse n) (changed (cut w i Completed) (inUse done)))
+      → r .polyvalue ≡ packed (simplified w (changed (cut w i Completed) (inUse done)))
+  unfolding simplified
+  completed-rows done few e =
+      let rows : List Pair = changed (cut w i Completed) (inUse done) in
+      let is : simplifiedFrom w (inUse n) rows ≡ simplified w rows = ap (λ (l : List Pair). simplifiedFrom w l rows) (packed-in-use [] empty) in
+      ap (λ (j : Joined). j .polyvalue)
+      (e ∙ ap (fitted n) is ∙ fitted-yes n (simplified w rows) (omega (arith, length-simplified w rows, length-map (inUse done) (λ p. pair (p .value) (cut w i Completed (assignments p))))))
+
+from-append : (w : ℕ) (done ps qs : List Pair) → simplifiedFrom w done (ps ++ qs) ≡ simplifiedFrom w (simplifiedFrom w done ps) qs
+unfolding simplifiedFrom
+from-append w done [] qs = refl
+from-append w done (p ∷ ps) qs = from-append w (join w (p .value) (assignments p) done) ps qs
+
+pub selected-rows : (w i : ℕ) (done gone t : Polyvalue) → t ≡ packed (simplified w (changed (cut w i Completed) (inUse done)))
+    → simplifiedFrom w (inUse t) (changed (cut w i Aborted) (inUse gone)) ≡ select w i (inUse done) (inUse gone)
+unfolding select simplified
+selected-rows w i done gone t e =
+    ap (λ (l : List Pair). simplifiedFrom w l (changed (cut w i Aborted) (inUse gone))) (packed-in-use _ e)
+    ∙ sym (from-append w [] (changed (cut w i Completed) (inUse done)) (changed (cut w i Aborted) (inUse gone)))
+
+-- ---- one turn of the loop over the rows: `new` is row i with its condition changed
+
+module _ (w : ℕ) (f : ℕ → ℕ) (done rows : Polyvalue) (i : ℕ) (target : List Pair) {new : Pair} {r : Joined} (more : i < length (inUse rows))
+  (left : simplifiedFrom w (inUse done) (changed f (drop i (inUse rows))) ≡ target)
+  (is : new ≡ pair (getD (rows .pairs) i noPair .value) (f (assignments (getD (rows .pairs) i noPair))))
+  (e : r ≡ fitted done (join w (new .value) (assignments new) (inUse done))) where
+  after : simplifiedFrom w (join w (new .value) (assignments new) (inUse done)) (changed f (drop (suc i) (inUse rows))) ≡ target
+  after =
+      ap (λ (p : Pair). simplifiedFrom w (join w (p .value) (assignments p) (inUse done)) (changed f (drop (suc i) (inUse rows)))) is
+      ∙ sym (rows-more w f (inUse done) rows i more) ∙ left
+
+  pub turn-fits : r .fits ≡ true
+      → (r .polyvalue ≡ packed (inUse (r .polyvalue))) × (length (inUse (r .polyvalue)) ≤ room)
+      × (simplifiedFrom w (inUse (r .polyvalue)) (changed f (drop (suc i) (inUse rows))) ≡ target)
+  turn-fits t =
+      let yes′ = fits-yes done (join w (new .value) (assignments new) (inUse done)) e t in
+      let same : inUse (r .polyvalue) ≡ join w (new .value) (assignments new) (inUse done) = packed-in-use _ (yes′ .0) in
+      (packed-again _ (yes′ .0), rw same (yes′ .1), rw same after)
+
+  pub turn-full : r .fits ≡ false → room < length target
+  turn-full t =
+      omega (arith, fits-no done (join w (new .value) (assignments new) (inUse done)) e t,
+        grows-from w (join w (new .value) (assignments new) (inUse done)) (changed f (drop (suc i) (inUse rows))), ap length after)

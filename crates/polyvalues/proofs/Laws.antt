@@ -1,0 +1,13 @@
+-- What is true of the definitions in specs/. The crates above cite these laws and open no definition.
+pub mod Values
+pub mod Holds
+pub mod Join
+pub mod Simplify
+pub mod Canon
+pub mod Depends
+pub mod Operations
+pub mod Room
+pub mod WellFormed
+pub mod Packed
+pub mod Rows
+pub mod Cover

@@ -1,0 +1,66 @@
+-- A polyvalue as the code keeps it, and the list of its pairs.
+use mathlib.Core.Path.{_≡_, refl, sym, ap, ap₂, _∙_}
+use mathlib.Core.Bool.{true, _&&_}
+use mathlib.Core.List.{List, [], _∷_, _++_}
+use Prim.Native.Nat.{ℕ, zero, suc, _-_, _≤_}
+use native.Mathlib.Omega.{arith}
+use lib.Dec.{eqb, leb}
+use lib.IntN.{pos}
+use lib.ListN.{length, take, drop, replicate, take-append-drop, length-drop}
+use lib.Seq.{take-append-seam, drop-append-seam, length-take-le}
+use borrow.Author.Tests.{eqb-true, le-leb, leb-true}
+use Rattle.conditions.proofs.Laws.Below.{and-left, and-right}
+use Rattle.polyvalues.specs.declared.polyvalue.Pair.{Pair}
+use Rattle.polyvalues.specs.declared.polyvalue.Polyvalue.{Polyvalue}
+use Rattle.polyvalues.specs.Values.{equal}
+use Rattle.polyvalues.specs.Pairs.{assignments, noPair}
+use Rattle.polyvalues.specs.Polyvalues.{each, room, sound, WellFormed, wellFormed, inUse, tidy, packed}
+use Rattle.polyvalues.proofs.Laws.Values.{equal-true}
+use Rattle.polyvalues.proofs.Laws.Holds.{same-pair}
+use Rattle.polyvalues.proofs.Laws.WellFormed.{well-formed-true, true-well-formed}
+
+pub inUse-packed : (ps : List Pair) → inUse (packed ps) ≡ ps
+unfolding inUse packed
+inUse-packed ps = take-append-seam ps (replicate (room - length ps) noPair)
+
+tidy-packed : (ps : List Pair) → tidy (packed ps) ≡ true
+unfolding tidy packed
+tidy-packed ps = rw (drop-append-seam ps (replicate (room - length ps) noPair)) (blanks (room - length ps))
+  where
+    blanks : (n : ℕ) → each (λ p. equal (p .value) (pos 0) && eqb (assignments p) 0) (replicate n noPair) ≡ true
+    blanks zero = refl
+    blanks (suc n) = blanks n
+
+packed-tidy : (q : Polyvalue) → q .count ≤ room → length (q .pairs) ≡ room → tidy q ≡ true → packed (inUse q) ≡ q
+unfolding inUse tidy packed
+packed-tidy q c l t =
+    let count : length (take (q .count) (q .pairs)) ≡ q .count = length-take-le (q .count) (q .pairs) (omega arith) in
+    let rows : room - length (take (q .count) (q .pairs)) ≡ length (drop (q .count) (q .pairs)) = omega (arith, length-drop (q .count) (q .pairs)) in
+    let pairs : take (q .count) (q .pairs) ++ replicate (room - length (take (q .count) (q .pairs))) noPair ≡ q .pairs =
+    ap (λ n. take (q .count) (q .pairs) ++ replicate n noPair) rows
+    ∙ ap (λ r. take (q .count) (q .pairs) ++ r) (sym (blank (drop (q .count) (q .pairs)) t))
+    ∙ take-append-drop (q .count) (q .pairs) in
+    λ i. record { count = count i; pairs = pairs i }
+  where
+    blank : (ps : List Pair) → each (λ p. equal (p .value) (pos 0) && eqb (assignments p) 0) ps ≡ true → ps ≡ replicate (length ps) noPair
+    blank [] e = refl
+    blank (p ∷ ps) e =
+        let this = and-left (equal (p .value) (pos 0) && eqb (assignments p) 0) _ e in
+        ap₂ _∷_
+        (same-pair p noPair (equal-true (p .value) (pos 0) (and-left _ (eqb (assignments p) 0) this)) (eqb-true (assignments p) 0 (and-right (equal (p .value) (pos 0)) _ this)))
+        (blank ps (and-right (equal (p .value) (pos 0) && eqb (assignments p) 0) _ e))
+
+pub packed-sound : (w : ℕ) (ps : List Pair) → WellFormed w ps → sound w (packed ps) ≡ true
+unfolding sound packed
+packed-sound w ps f = ap₂ _&&_ (le-leb (length ps) room (f .few)) (ap₂ _&&_ (tidy-packed ps) (ap (wellFormed w) (inUse-packed ps) ∙ well-formed-true w ps f))
+
+pub sound-well-formed : (w : ℕ) (q : Polyvalue) → sound w q ≡ true → WellFormed w (inUse q)
+unfolding sound
+sound-well-formed w q e = true-well-formed w (inUse q) (and-right (tidy q) _ (and-right (leb (q .count) room) _ e))
+
+-- a sound polyvalue is known by its pairs
+pub sound-packed : (w : ℕ) (q : Polyvalue) → length (q .pairs) ≡ room → sound w q ≡ true → packed (inUse q) ≡ q
+unfolding sound
+sound-packed w q l e =
+    packed-tidy q (leb-true (q .count) room (and-left (leb (q .count) room) _ e)) l
+    (and-left (tidy q) _ (and-right (leb (q .count) room) _ e))

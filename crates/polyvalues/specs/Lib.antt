@@ -1,0 +1,6 @@
+pub mod Values
+pub mod Pairs
+pub mod Polyvalues
+pub mod Simplify
+pub mod Operations
+pub mod Rows
