@@ -16,11 +16,9 @@ ghost use Rattle.conditions.specs.Conditions.{
   reduced,
   dependsOn,
 };
+use crate::place::ASSIGNMENTS;
 use crate::place::PLACES;
 use crate::place::Place;
-
-// How many assignments there are.
-const ASSIGNMENTS: usize = 64;
 
 // Bit n is 1 where the assignment n is a member.
 pub struct Condition(pub(crate) u64);

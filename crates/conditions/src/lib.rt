@@ -10,6 +10,7 @@ mod table;
 mod text;
 
 pub use condition::Condition;
+pub use place::ASSIGNMENTS;
 pub use place::PLACES;
 pub use place::Place;
 pub use place::TransactionNumber;

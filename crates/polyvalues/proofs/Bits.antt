@@ -48,7 +48,7 @@ wide a = toZ w32 (ofZ w32 (toZ w16 (ofZ w16 a)))
 pub wide-fits : {a : ℤ} → SFits w16 a → SFits w32 (toZ w16 (ofZ w16 a))
 wide-fits f = subst⁻¹ (SFits w32) (toZ-ofZ f) (sfits-widen tt f)
 
-wide-is : {a : ℤ} → SFits w16 a → wide a ≡ a
+pub wide-is : {a : ℤ} → SFits w16 a → wide a ≡ a
 wide-is f = toZ-ofZ (wide-fits f) ∙ toZ-ofZ f
 
 pub wide-sum-fits : {a b : ℤ} → SFits w16 a → SFits w16 b → SFits w32 (wide a +ℤ wide b)

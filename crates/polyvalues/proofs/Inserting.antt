@@ -76,12 +76,17 @@ carried-zero p z (q ∷ ps) zs = ap (λ (l : List Pair). p ∷ l) (carried-zero 
 
 moved-rows : (ps : List Pair) (k : ℕ) (p : Pair) → k ≤ length ps → length ps < room
     → moved k (length ps) p (ps ++ replicate (room - length ps) noPair)
-        ≡ (take k ps ++ p ∷ drop k ps) ++ replicate (room - suc (length ps)) noPair
+    ≡ (take k ps ++ p ∷ drop k ps) ++ replicate (room - suc (length ps)) noPair
 moved-rows ps k p h l =
     let zeros : room - length ps ≡ suc (room - suc (length ps)) = omega arith in
     let rest : suc (length ps) - k ≡ suc (length (drop k ps)) = omega (arith, length-drop k ps) in
-    rw (zeros, take-append-le k ps (noPair ∷ replicate (room - suc (length ps)) noPair) h, drop-append-le k ps (noPair ∷ replicate (room - suc (length ps)) noPair) h, rest,
-      carried-zero p noPair (drop k ps) (replicate (room - suc (length ps)) noPair))
+    rw (
+      zeros,
+      take-append-le k ps (noPair ∷ replicate (room - suc (length ps)) noPair) h,
+      drop-append-le k ps (noPair ∷ replicate (room - suc (length ps)) noPair) h,
+      rest,
+      carried-zero p noPair (drop k ps) (replicate (room - suc (length ps)) noPair),
+    )
     (sym (append-assoc (take k ps) (p ∷ drop k ps) (replicate (room - suc (length ps)) noPair)))
 
 length-new : (ps : List Pair) (k : ℕ) (p : Pair) → k ≤ length ps → length (take k ps ++ p ∷ drop k ps) ≡ suc (length ps)

@@ -62,7 +62,7 @@ in-use-row q i h = getD-take (q .count) (q .pairs) i noPair (omega (arith, in-us
 -- the row i of what is left is joined
 pub rows-more : (w : ℕ) (f : ℕ → ℕ) (done : List Pair) (q : Polyvalue) (i : ℕ) → i < length (inUse q)
     → simplifiedFrom w done (changed f (drop i (inUse q)))
-        ≡ simplifiedFrom w (join w (getD (q .pairs) i noPair .value) (f (assignments (getD (q .pairs) i noPair))) done) (changed f (drop (suc i) (inUse q)))
+    ≡ simplifiedFrom w (join w (getD (q .pairs) i noPair .value) (f (assignments (getD (q .pairs) i noPair))) done) (changed f (drop (suc i) (inUse q)))
 unfolding simplifiedFrom
 rows-more w f done q i h = rw (drop-cons (inUse q) i noPair h, in-use-row q i h)
 
@@ -116,9 +116,9 @@ selected-rows w i done gone t e =
 -- ---- one turn of the loop over the rows: `new` is row i with its condition changed
 
 module _ (w : ℕ) (f : ℕ → ℕ) (done rows : Polyvalue) (i : ℕ) (target : List Pair) {new : Pair} {r : Joined} (more : i < length (inUse rows))
-  (left : simplifiedFrom w (inUse done) (changed f (drop i (inUse rows))) ≡ target)
-  (is : new ≡ pair (getD (rows .pairs) i noPair .value) (f (assignments (getD (rows .pairs) i noPair))))
-  (e : r ≡ fitted done (join w (new .value) (assignments new) (inUse done))) where
+    (left : simplifiedFrom w (inUse done) (changed f (drop i (inUse rows))) ≡ target)
+    (is : new ≡ pair (getD (rows .pairs) i noPair .value) (f (assignments (getD (rows .pairs) i noPair))))
+    (e : r ≡ fitted done (join w (new .value) (assignments new) (inUse done))) where
   after : simplifiedFrom w (join w (new .value) (assignments new) (inUse done)) (changed f (drop (suc i) (inUse rows))) ≡ target
   after =
       ap (λ (p : Pair). simplifiedFrom w (join w (p .value) (assignments p) (inUse done)) (changed f (drop (suc i) (inUse rows)))) is
@@ -134,5 +134,9 @@ module _ (w : ℕ) (f : ℕ → ℕ) (done rows : Polyvalue) (i : ℕ) (target :
 
   pub turn-full : r .fits ≡ false → room < length target
   turn-full t =
-      omega (arith, fits-no done (join w (new .value) (assignments new) (inUse done)) e t,
-        grows-from w (join w (new .value) (assignments new) (inUse done)) (changed f (drop (suc i) (inUse rows))), ap length after)
+      omega (
+        arith,
+        fits-no done (join w (new .value) (assignments new) (inUse done)) e t,
+        grows-from w (join w (new .value) (assignments new) (inUse done)) (changed f (drop (suc i) (inUse rows))),
+        ap length after,
+      )

@@ -4,3 +4,6 @@ pub mod Known
 mod Moving
 mod Inserting
 mod Joining
+mod Asking
+mod Comparing
+mod Checking

@@ -4,3 +4,5 @@ pub mod Polyvalues
 pub mod Simplify
 pub mod Operations
 pub mod Rows
+pub mod Asked
+pub mod Checked

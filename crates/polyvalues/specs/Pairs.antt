@@ -8,6 +8,7 @@ use lib.IntN.{ℤ, pos}
 use Rattle.conditions.specs.Sets.{digit, member}
 use Rattle.conditions.specs.Conditions.{number, ofNumber, full, dependsOn}
 use Rattle.polyvalues.specs.declared.polyvalue.Pair.{Pair}
+use Rattle.polyvalues.specs.Values.{equal}
 
 -- a value, and the condition that is written c
 abbrev pub pair : ℤ → ℕ → Pair
@@ -20,6 +21,10 @@ noPair = pair (pos 0) 0
 -- its condition, written as a number
 abbrev pub assignments : Pair → ℕ
 assignments p = number (p .condition)
+
+-- it is the row that holds zeros
+abbrev pub blank : Pair → Bool
+blank p = equal (p .value) (pos 0) && eqb (assignments p) 0
 
 -- the assignment a is in its condition
 abbrev pub applies : Pair → ℕ → Bool

@@ -4,15 +4,15 @@ use mathlib.Core.Bool.{Bool, true, false, not, _&&_, cond}
 use mathlib.Core.List.{List, [], _∷_, _++_}
 use Prim.Native.Nat.{ℕ, _-_, _^_, _≤_, _<_}
 use lib.Dec.{eqb, leb, ltb}
-use lib.IntN.{ℤ, pos}
+use lib.IntN.{ℤ}
 use lib.ListN.{length, take, drop, replicate}
 use Rattle.conditions.specs.Below.{all}
 use Rattle.conditions.specs.Conditions.{empty}
 use Rattle.polyvalues.specs.declared.polyvalue.Pair.{Pair}
 use Rattle.polyvalues.specs.declared.polyvalue.Polyvalue.{Polyvalue}
 use Rattle.polyvalues.specs.declared.polyvalue.Joined.{Joined}
-use Rattle.polyvalues.specs.Values.{inRange, below, equal}
-use Rattle.polyvalues.specs.Pairs.{noPair, assignments, hits}
+use Rattle.polyvalues.specs.Values.{inRange, below}
+use Rattle.polyvalues.specs.Pairs.{noPair, blank, assignments, hits}
 
 -- each pair passes a test
 abbrev pub each : (Pair → Bool) → List Pair → Bool
@@ -72,7 +72,7 @@ inUse q = take (q .count) (q .pairs)
 
 -- "rows past the counts .. hold zeros"
 unfoldable pub tidy : Polyvalue → Bool
-tidy q = each (λ p. equal (p .value) (pos 0) && eqb (assignments p) 0) (drop (q .count) (q .pairs))
+tidy q = each blank (drop (q .count) (q .pairs))
 
 -- the count is one that there is room for, and what counts is well formed
 unfoldable pub sound : ℕ → Polyvalue → Bool

@@ -12,10 +12,10 @@ ghost use Rattle.polyvalues.specs.Polyvalues.{room, inUse, packed, fitte
 ghost use Rattle.polyvalues.specs.Simplify.{insert, join, simplifiedFrom};
 ghost use Rattle.polyvalues.specs.Operations.{cut, changed, reduce, select, together, same};
 ghost use Rattle.polyvalues.specs.Rows.{PlaceOf, hasAt, moved};
-use conditions::Condition;
-use conditions::Place;
 use crate::value::below;
 use crate::value::equal;
+use conditions::Condition;
+use conditions::Place;
 
 // How many pairs a polyvalue has room for.
 pub const PAIRS: usize = 8;
@@ -49,7 +49,7 @@ pub enum Cut {
 
 impl Pair {
     // Whether its value is below the other's.
-    fn below(self, other: Pair) -> bool
+    pub(crate) fn below(self, other: Pair) -> bool
         ensures { λ r. ⌜ r ≡ below (self .value) (other .value) ⌝ }
     {
         let a = self.value;
@@ -58,7 +58,7 @@ impl Pair {
     }
 
     // Whether they have the same value.
-    fn equal(self, other: Pair) -> bool
+    pub(crate) fn equal(self, other: Pair) -> bool
         ensures { λ r. ⌜ r ≡ equal (self .value) (other .value) ⌝ }
     {
         let a = self.value;
@@ -206,7 +206,7 @@ fn cut_pair(row: Pair, place: Place, how: Cut) -> Pair
 
 impl Polyvalue {
     // How many rows are in use: any count may be handed in.
-    fn len(self) -> usize
+    pub(crate) fn len(self) -> usize
         ensures { λ r. ⌜ r ≡ length (inUse self) ⌝ }
         ensures { λ r. ⌜ r ≤ room ⌝ }
     {

@@ -39,7 +39,7 @@ loop-less : tie.Need-loop-less Inv-loop μ-loop
 loop-less c = omega arith
 
 loop-again : tie.Need-loop-again Inv-loop μ-loop
-loop-again c = 
+loop-again c =
     let at-loop = c .before .before .loop in
     (omega arith, omega arith, omega arith, simp length-set (at-loop .inv .3), rw add-one (moved-more (at-loop .i) (c .before .before .before .args .n) (at-loop .carry) (at-loop .pairs) (omega arith) (omega (arith, at-loop .inv .3))) ∙ at-loop .inv .4)
 

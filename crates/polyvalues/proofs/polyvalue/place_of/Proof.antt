@@ -30,11 +30,11 @@ below-requires : tie.Need-below-requires Inv-loop μ-loop
 below-requires c κs = search needs
 
 returns : tie.Need-returns Inv-loop μ-loop
-returns c = 
+returns c =
     record {
       within = c .before .before .before .before .loop .inv .0;
       before = c .before .before .before .before .loop .inv .1;
-      stops = λ h. sym (c .before .below .ensures) ∙ not-true _ (c .if1 .taken)
+      stops = λ h. sym (c .before .below .ensures) ∙ not-true _ (c .if1 .taken);
     }
 
 add-k : tie.Need-add-k Inv-loop μ-loop

@@ -14,7 +14,7 @@ is-empty-requires c κs = search needs
 
 returns : tie.Need-returns
 unfolding join
-returns c = 
+returns c =
     let held : Held (c .before .before .args .q) = record { values = _; own = c .before .before .good .0 } in
     rw (sym (c .before .is-empty .ensures) ∙ c .if1 .taken) (ap (λ (r : Polyvalue). record { fits = true; polyvalue = r }) (c .before .before .pre) ∙ sym (fitted-yes _ _ (in-use-le (c .before .before .args .q) (pairs-long held))))
 

@@ -6,12 +6,12 @@ use Rattle.polyvalues.proofs.polyvalue.Polyvalue.len.Statement.{stateme
 use Rattle.polyvalues.proofs.polyvalue.Polyvalue.len.Tie as tie
 
 returns : tie.Need-returns
-returns c = 
+returns c =
     let held : Held (c .before .args .self) = record { values = _; own = c .before .good .0 } in
     (omega (arith, in-use-length (c .before .args .self), pairs-long held), omega arith)
 
 returns-2 : tie.Need-returns-2
-returns-2 c = 
+returns-2 c =
     let held : Held (c .before .args .self) = record { values = _; own = c .before .good .0 } in
     (omega (arith, in-use-length (c .before .args .self), pairs-long held), omega arith)
 

@@ -14,7 +14,7 @@ join-rows-requires : tie.Need-join-rows-requires
 join-rows-requires c κs = packed-again _ (c .nothing .ensures)
 
 returns : tie.Need-returns
-returns c = 
+returns c =
     let held : Held (c .before .before .before .args .self) = record { values = _; own = c .before .before .before .good .0 } in
     reduced-rows places _ (c .before .before .nothing .ensures) _ (c .before .before .before .args .self) (in-use-le (c .before .before .before .args .self) (pairs-long held)) (c .before .join-rows .ensures)
 

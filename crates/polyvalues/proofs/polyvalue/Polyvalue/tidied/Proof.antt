@@ -24,7 +24,7 @@ len-requires : tie.Need-len-requires Inv-loop μ-loop
 len-requires c κs = search needs
 
 loop-holds : tie.Need-loop-holds Inv-loop μ-loop
-loop-holds c = 
+loop-holds c =
     let held : Held (c .before .before .args .self) = record { values = _; own = c .before .before .good .0 } in
     (omega arith, c .before .len .ensures .1, pairs-long held, sym (zeros-none (c .before .len .result) (c .before .before .args .self .pairs)))
 
@@ -41,13 +41,16 @@ loop-less : tie.Need-loop-less Inv-loop μ-loop
 loop-less c = omega arith
 
 loop-again : tie.Need-loop-again Inv-loop μ-loop
-loop-again c = 
-    let at-loop = c .before .loop in
-    (omega arith, omega arith, at-loop .inv .2,
-    ap (λ (l : List Pair). set l (at-loop .i) noPair) (at-loop .inv .3) ∙ rw add-one (zeros-more (c .before .before .before .len .result) (at-loop .i) (c .before .before .before .before .args .self .pairs) (at-loop .inv .0) (omega (arith, at-loop .inv .2))))
+loop-again c =
+    let at-loop = c .before .loop in (
+      omega arith,
+      omega arith,
+      at-loop .inv .2,
+      ap (λ (l : List Pair). set l (at-loop .i) noPair) (at-loop .inv .3) ∙ rw add-one (zeros-more (c .before .before .before .len .result) (at-loop .i) (c .before .before .before .before .args .self .pairs) (at-loop .inv .0) (omega (arith, at-loop .inv .2))),
+    )
 
 returns : tie.Need-returns Inv-loop μ-loop
-returns c = 
+returns c =
     let at-loop = c .before .loop in
     let last : at-loop .i ≡ room = omega (arith, at-loop .inv .1) in
     zeros-all (c .before .before .before .before .args .self) (c .before .before .before .len .result) (at-loop .inv .2) (c .before .before .before .len .ensures .0) (c .before .before .before .len .ensures .1) (rw last at (at-loop .inv .3))

@@ -1,0 +1,83 @@
+-- The loop's invariant: what is asked is asked of the rows from i on, after the last row and what is covered.
+use mathlib.Core.Path.{_≡_, refl, sym, ap, _∙_}
+use mathlib.Core.Bool.{Bool, _&&_}
+use Prim.Native.Nat.{ℕ, suc, _≤_, _-_}
+use native.Mathlib.Numerals.{add-one}
+use native.Mathlib.Omega.{arith}
+use lib.Dec.{eqb}
+use lib.ListN.{length, drop}
+use borrow.Author.Needs.{needs}
+use borrow.Author.Tests.{not-true, not-false}
+use Rattle.conditions.specs.Places.{places}
+use Rattle.conditions.proofs.Laws.Conditions.{always-full}
+use Rattle.polyvalues.specs.Polyvalues.{inUse}
+use Rattle.polyvalues.specs.Checked.{belowAll, checkedFrom}
+use Rattle.polyvalues.proofs.Checking.{checked-more, checked-turn, checked-done}
+use Rattle.polyvalues.proofs.polyvalue.Polyvalue.is_checked.Statement.{statement}
+use Rattle.polyvalues.proofs.polyvalue.Polyvalue.is_checked.Tie as tie
+
+abbrev Inv-loop : tie.InvT-loop
+Inv-loop self n last₀ covered₀ i₀ last covered i = checkedFrom places (last .value) (covered .0) (drop i (inUse self)) ≡ checkedFrom places belowAll 0 (inUse self)
+
+abbrev μ-loop : tie.MeasureT-loop
+μ-loop self n last₀ covered₀ i₀ last covered i = n - i
+
+len-requires : tie.Need-len-requires Inv-loop μ-loop
+len-requires c κs = search needs
+
+loop-holds : tie.Need-loop-holds Inv-loop μ-loop
+loop-holds c = refl
+
+mul-row : tie.Need-mul-row Inv-loop μ-loop
+mul-row c = record { fits = omega (arith, c .before .before .len .ensures .1) }
+
+element-copy-out-row : tie.Need-element-copy-out-row Inv-loop μ-loop
+element-copy-out-row c = omega (arith, c .before .before .len .ensures .1)
+
+follows-requires : tie.Need-follows-requires Inv-loop μ-loop
+follows-requires c κs = search needs
+
+returns : tie.Need-returns Inv-loop μ-loop
+returns c =
+    let row = checked-more places (c .before .before .before .before .loop .last .value) (c .before .before .before .before .loop .covered .0) (c .before .before .before .before .before .before .args .t1) (c .before .before .before .before .loop .i) (omega (arith, c .before .before .before .before .before .len .ensures .0)) in
+    sym (sym (c .before .before .before .before .loop .inv) ∙ row ∙ rw (sym (c .before .follows .ensures) ∙ not-true _ (c .if1 .taken)))
+
+union-requires : tie.Need-union-requires Inv-loop μ-loop
+union-requires c κs = search needs
+
+add-i : tie.Need-add-i Inv-loop μ-loop
+add-i c = search needs
+
+loop-less : tie.Need-loop-less Inv-loop μ-loop
+loop-less c = omega arith
+
+loop-again : tie.Need-loop-again Inv-loop μ-loop
+loop-again c =
+    rw add-one
+    (checked-turn places (c .before .before .before .before .before .loop .last .value) (c .before .before .before .before .before .loop .covered .0) (c .before .before .before .before .before .before .before .args .t1) (c .before .before .before .before .before .loop .i) (omega (arith, c .before .before .before .before .before .before .len .ensures .0)) (c .before .before .before .before .before .loop .inv)
+    (sym (c .before .before .follows .ensures) ∙ not-false _ (c .before .if1 .left)) (c .union .ensures))
+
+same-requires : tie.Need-same-requires Inv-loop μ-loop
+same-requires c κs = search needs
+
+returns-2 : tie.Need-returns-2 Inv-loop μ-loop
+returns-2 c = c .same .ensures ∙ ap (eqb (c .before .before .loop .covered .0)) always-full ∙ sym (checked-done places _ _ (inUse (c .before .before .before .before .args .t1)) (c .before .before .loop .i) (omega (arith, c .before .before .before .len .ensures .0))) ∙ c .before .before .loop .inv
+
+pub is-checked-spec : {M : Type 1} → statement M
+is-checked-spec =
+    tie.close
+    (tie.spec
+    Inv-loop
+    μ-loop
+    len-requires
+    loop-holds
+    mul-row
+    element-copy-out-row
+    follows-requires
+    returns
+    union-requires
+    add-i
+    loop-less
+    loop-again
+    same-requires
+    returns-2)
