@@ -1,16 +1,16 @@
 -- The test of the rows, one after the other, is the one that document 01 words.
 use mathlib.Core.Path.{_≡_, refl, sym, ap, ap₂, _∙_}
-use mathlib.Core.Bool.{Bool, true, false, not, _&&_, and-false, true≢false, false≢true}
-use mathlib.Core.List.{List, [], _∷_, map}
-use Prim.Native.Nat.{ℕ, zero, suc, _+_, _≤_, _<_, _^_, zero-le}
+use mathlib.Core.Bool.{Bool, true, false, not, _&&_, true≢false, false≢true}
+use mathlib.Core.List.{List, [], _∷_}
+use Prim.Native.Nat.{ℕ, suc, _≤_, _<_, _^_, zero-le}
 use native.Mathlib.Nat.{lt-of-le-of-lt}
 use native.Mathlib.Omega.{arith}
-use lib.Dec.{eqb, leb, ltb}
+use lib.Dec.{eqb, leb}
 use lib.IntN.{ℤ, pos, negsuc}
-use lib.ListN.{length, getD, take, drop, drop-of-length-le}
+use lib.ListN.{length, getD, drop, drop-of-length-le}
 use lib.Seq.{drop-cons}
 use lib.Signed.{leZ}
-use borrow.Author.Tests.{lt-ltb, le-ltb, le-leb, leb-true, lt-leb, not-true, eqb-true}
+use borrow.Author.Tests.{lt-ltb, le-leb, leb-true, eqb-true}
 use Rattle.conditions.specs.Below.{all}
 use Rattle.conditions.specs.Conditions.{full, union, intersection, empty}
 use Rattle.conditions.proofs.Laws.Below.{and-left, and-right, by-cases}
@@ -19,7 +19,7 @@ use Rattle.polyvalues.specs.declared.polyvalue.Pair.{Pair}
 use Rattle.polyvalues.specs.declared.polyvalue.Polyvalue.{Polyvalue}
 use Rattle.polyvalues.specs.Values.{inRange, below}
 use Rattle.polyvalues.specs.Pairs.{noPair, blank, assignments, hits}
-use Rattle.polyvalues.specs.Polyvalues.{each, risesFrom, rises, ofPlaces, proper, room, inUse, tidy, wellFormed, sound}
+use Rattle.polyvalues.specs.Polyvalues.{each, risesFrom, rises, ofPlaces, proper, room, inUse, wellFormed}
 use Rattle.polyvalues.specs.Checked.{belowAll, rowFits, checkedFrom}
 use Rattle.polyvalues.proofs.Laws.Cover.{covers, covers-test}
 use Rattle.polyvalues.proofs.Joining.{in-use-row}

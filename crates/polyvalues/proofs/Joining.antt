@@ -1,8 +1,8 @@
 -- Rows joined one after the other, and answers that there is room or not.
-use mathlib.Core.Path.{_≡_, refl, sym, ap, ap₂, _∙_}
-use mathlib.Core.Bool.{Bool, true, false, not, _||_, true≢false}
-use mathlib.Core.List.{List, [], _∷_, _++_, map}
-use Prim.Native.Nat.{ℕ, zero, suc, _+_, _≤_, _<_, min}
+use mathlib.Core.Path.{_≡_, refl, sym, ap, _∙_}
+use mathlib.Core.Bool.{Bool, true, false, _||_, true≢false}
+use mathlib.Core.List.{List, [], _∷_, _++_}
+use Prim.Native.Nat.{ℕ, suc, _≤_, _<_}
 use native.Mathlib.Omega.{arith}
 use lib.Dec.{leb}
 use lib.ListN.{length, getD, drop, drop-of-length-le, length-map}
@@ -13,8 +13,7 @@ use Rattle.conditions.proofs.Laws.Below.{by-cases}
 use Rattle.polyvalues.specs.declared.polyvalue.Pair.{Pair}
 use Rattle.polyvalues.specs.declared.polyvalue.Polyvalue.{Polyvalue}
 use Rattle.polyvalues.specs.declared.polyvalue.Joined.{Joined}
-use Rattle.polyvalues.specs.declared.polyvalue.Cut.{Cut}
-use Rattle.polyvalues.specs.declared.polyvalue.Cut.the-variants.{Reduced, Completed, Aborted}
+use Rattle.polyvalues.specs.declared.operations.Cut.the-variants.{Reduced, Completed, Aborted}
 use Rattle.polyvalues.specs.Pairs.{pair, assignments, noPair, depends}
 use Rattle.polyvalues.specs.Polyvalues.{room, inUse, packed, fitted}
 use Rattle.polyvalues.specs.Simplify.{join, simplifiedFrom, simplified}

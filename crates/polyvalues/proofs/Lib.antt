@@ -7,3 +7,4 @@ mod Joining
 mod Asking
 mod Comparing
 mod Checking
+mod Texts

@@ -7,8 +7,8 @@ use lib.IntN.{ℤ}
 use Rattle.conditions.specs.Sets.{digit}
 use Rattle.conditions.specs.Conditions.{reduced, selected}
 use Rattle.polyvalues.specs.declared.polyvalue.Pair.{Pair}
-use Rattle.polyvalues.specs.declared.polyvalue.Cut.{Cut}
-use Rattle.polyvalues.specs.declared.polyvalue.Cut.the-variants.{Reduced, Completed, Aborted}
+use Rattle.polyvalues.specs.declared.operations.Cut.{Cut}
+use Rattle.polyvalues.specs.declared.operations.Cut.the-variants.{Reduced, Completed, Aborted}
 use Rattle.polyvalues.specs.Values.{equal}
 use Rattle.polyvalues.specs.Pairs.{pair, assignments}
 use Rattle.polyvalues.specs.Simplify.{simplified}

@@ -1,8 +1,7 @@
 -- Each, any, the lowest, and all by rising number, over the numbers below k.
 use mathlib.Core.Path.{_≡_, refl, sym, ap, ap₂, _∙_}
-use mathlib.Core.Bool.{Bool, true, false, not, _&&_, _||_, cond, true≢false, false≢true, and-false}
-use Prim.Native.Nat.{ℕ, zero, suc, _+_, _≤_, _<_}
-use native.Mathlib.Nat.{zero-lt-suc}
+use mathlib.Core.Bool.{Bool, true, false, _&&_, _||_, cond, true≢false, false≢true}
+use Prim.Native.Nat.{ℕ, zero, suc, _≤_, _<_}
 use native.Mathlib.Omega.{arith}
 use borrow.Author.Count.{below-more}
 use Rattle.conditions.specs.Below.{all, any, first}
@@ -75,6 +74,10 @@ pub none-any : (k : ℕ) (f : ℕ → Bool) → ((i : ℕ) → i < k → f i ≡
 unfolding any
 none-any zero f g = refl
 none-any (suc k) f g = ap₂ _||_ (none-any k f (λ i h. g i (omega arith))) (g k (omega arith))
+
+pub any-more : (k : ℕ) (f : ℕ → Bool) → any k f ≡ false → f k ≡ false → any (suc k) f ≡ false
+unfolding any
+any-more k f e g = ap₂ _||_ e g
 
 pub any-of : (k : ℕ) (f : ℕ → Bool) (i : ℕ) → i < k → f i ≡ true → any k f ≡ true
 any-of k f i h e = by-cases (any k f) (λ t. t) (λ t. absurd (true≢false (sym e ∙ any-none k f t i h)))

@@ -6,7 +6,7 @@ use native.Mathlib.Omega.{arith}
 use native.Mathlib.Decide.{decLt}
 use lib.Dec.{eqb}
 use borrow.Author.Tests.{eq-eqb, ne-eqb, eqb-true, eqb-false}
-use Rattle.conditions.specs.Sets.{digit, member, setOf}
+use Rattle.conditions.specs.Sets.{digit, member}
 use Rattle.conditions.specs.Places.{withPlace}
 use Rattle.conditions.proofs.Laws.Sets.{digit-odd, odd-same, odd-not, member-zero, member-suc, member-past, setOf-lt, member-setOf, is-setOf}
 

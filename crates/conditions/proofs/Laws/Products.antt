@@ -1,12 +1,12 @@
 -- Products of tags: which assignments they allow, what is left of one without a tag, and that a condition is the union of its prime products. For any number w of places.
 use mathlib.Core.Path.{_≡_, refl, sym, ap, ap₂, _∙_}
 use mathlib.Core.Bool.{Bool, true, false, not, _&&_, _||_, cond, true≢false}
-use Prim.Native.Nat.{ℕ, zero, suc, _+_, _-_, _*_, _/_, _%_, _^_, _≤_, _<_}
+use Prim.Native.Nat.{ℕ, zero, suc, _+_, _*_, _/_, _%_, _^_, _≤_, _<_}
 use native.Mathlib.Nat.{pow-suc, div-one, pow-succ', div-div-eq-div-mul, le-trans, mul-le-mul-right, mod-le, div-mul-le-self, mul-assoc, one-le-pow, zero-lt-suc}
 use native.Mathlib.Omega.{arith}
 use lib.Arith.{mod-mul}
 use lib.Dec.{eqb}
-use borrow.Author.Tests.{eq-eqb, ne-eqb, eqb-true, eqb-false, not-true, not-false}
+use borrow.Author.Tests.{ne-eqb, eqb-true, eqb-false, not-true, not-false}
 use Rattle.conditions.specs.Below.{all, any}
 use Rattle.conditions.specs.Sets.{odd, member}
 use Rattle.conditions.specs.Places.{withPlace}
@@ -14,7 +14,7 @@ use Rattle.conditions.specs.Conditions.{dependsOn}
 use Rattle.conditions.specs.Products.{tagAt, agrees, allows, allowed, within, dropped, needed, prime}
 use Rattle.conditions.proofs.Laws.Below.{and-left, and-right, or-left, or-right, by-cases, all-at, all-of, all-same, all-not, any-of, any-some}
 use Rattle.conditions.proofs.Laws.Sets.{member-zero, member-suc, same-members, setOf-lt, member-setOf, setOf-same}
-use Rattle.conditions.proofs.Laws.Places.{place-lt, member-place, member-set}
+use Rattle.conditions.proofs.Laws.Places.{place-lt, member-place}
 use Rattle.conditions.proofs.Laws.Conditions.{unchanged}
 
 -- ---- tags, digit by digit

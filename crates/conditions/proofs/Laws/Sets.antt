@@ -1,5 +1,5 @@
 -- A set that is written as a number: its members, and what a computer's operations do to all of them at once. For any width.
-use mathlib.Core.Path.{_≡_, refl, sym, ap, ap₂, _∙_}
+use mathlib.Core.Path.{_≡_, refl, sym, ap, _∙_}
 use mathlib.Core.Bool.{Bool, true, false, not, _&&_, _||_, cond}
 use Prim.Native.Nat.{ℕ, zero, suc, _+_, _-_, _*_, _/_, _%_, _^_, _≤_, _<_, min, max}
 use native.Mathlib.Nat.{mod-lt, div-div-eq-div-mul, pow-succ', zero-lt-suc, div-one, div-eq-of-lt, lt-of-lt-of-le}

@@ -1,11 +1,10 @@
 -- The loop's invariant: what is asked is asked of the rows from i on, after the last row and what is covered.
 use mathlib.Core.Path.{_≡_, refl, sym, ap, _∙_}
-use mathlib.Core.Bool.{Bool, _&&_}
-use Prim.Native.Nat.{ℕ, suc, _≤_, _-_}
+use Prim.Native.Nat.{_-_}
 use native.Mathlib.Numerals.{add-one}
 use native.Mathlib.Omega.{arith}
 use lib.Dec.{eqb}
-use lib.ListN.{length, drop}
+use lib.ListN.{drop}
 use borrow.Author.Needs.{needs}
 use borrow.Author.Tests.{not-true, not-false}
 use Rattle.conditions.specs.Places.{places}

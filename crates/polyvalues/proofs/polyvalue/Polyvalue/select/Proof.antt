@@ -5,7 +5,7 @@ use Rattle.conditions.specs.Places.{places}
 use Rattle.polyvalues.specs.Polyvalues.{packed, inUse, fitted}
 use Rattle.polyvalues.specs.Simplify.{simplified}
 use Rattle.polyvalues.specs.Operations.{cut, changed, select}
-use Rattle.polyvalues.specs.declared.polyvalue.Cut.the-variants.{Completed}
+use Rattle.polyvalues.specs.declared.operations.Cut.the-variants.{Completed}
 use Rattle.polyvalues.proofs.Known.{Held, pairs-long}
 use Rattle.polyvalues.proofs.Inserting.{in-use-le}
 use Rattle.polyvalues.proofs.Joining.{packed-again, completed-rows, selected-rows, refit-yes, refit-no}

@@ -1,7 +1,7 @@
 -- The loop's invariant: joining the rows from i on into what is done gives what is asked.
 use mathlib.Core.Path.{_≡_, refl, sym, ap, _∙_}
 use mathlib.Core.Bool.{true}
-use Prim.Native.Nat.{_≤_, _<_, _-_}
+use Prim.Native.Nat.{_≤_, _-_}
 use native.Mathlib.Numerals.{add-one}
 use native.Mathlib.Omega.{arith}
 use lib.ListN.{length, drop}
@@ -15,8 +15,8 @@ use Rattle.polyvalues.specs.Operations.{cut, changed}
 use Rattle.polyvalues.proofs.Known.{Held, pairs-long}
 use Rattle.polyvalues.proofs.Inserting.{in-use-le, fitted-yes, fitted-no}
 use Rattle.polyvalues.proofs.Joining.{rows-done, turn-fits, turn-full}
-use Rattle.polyvalues.proofs.polyvalue.join_rows.Statement.{statement}
-use Rattle.polyvalues.proofs.polyvalue.join_rows.Tie as tie
+use Rattle.polyvalues.proofs.operations.join_rows.Statement.{statement}
+use Rattle.polyvalues.proofs.operations.join_rows.Tie as tie
 
 abbrev Inv-loop : tie.InvT-loop
 Inv-loop start place how rows n done₀ i₀ done i =

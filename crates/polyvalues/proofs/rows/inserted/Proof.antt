@@ -1,6 +1,6 @@
 -- The three ways: a row of its value, no room, a row more.
 use borrow.Author.Needs.{needs}
-use mathlib.Core.Path.{_≡_, sym, _∙_}
+use mathlib.Core.Path.{sym, _∙_}
 use Prim.Native.Nat.{_≤_, _<_}
 use native.Mathlib.Omega.{arith}
 use lib.ListN.{length}
@@ -8,8 +8,8 @@ use Rattle.conditions.specs.Places.{places}
 use Rattle.polyvalues.specs.Polyvalues.{room, inUse}
 use Rattle.polyvalues.proofs.Known.{Held, pairs-long}
 use Rattle.polyvalues.proofs.Inserting.{in-use-le, has-lt, tidy-count, inserted-same, inserted-none, inserted-new}
-use Rattle.polyvalues.proofs.polyvalue.inserted.Statement.{statement}
-use Rattle.polyvalues.proofs.polyvalue.inserted.Tie as tie
+use Rattle.polyvalues.proofs.rows.inserted.Statement.{statement}
+use Rattle.polyvalues.proofs.rows.inserted.Tie as tie
 
 few : (s : tie.Start) → length (inUse (s .args .q)) ≤ room
 few s = let held : Held (s .args .q) = record { values = _; own = s .good .0 } in in-use-le (s .args .q) (pairs-long held)

@@ -2,10 +2,10 @@
 use borrow.Author.Needs.{needs}
 use mathlib.Core.Path.{sym, ap, _∙_}
 use Rattle.conditions.specs.Places.{places}
-use Rattle.polyvalues.specs.declared.polyvalue.Cut.{Cut}
+use Rattle.polyvalues.specs.declared.operations.Cut.{Cut}
 use Rattle.polyvalues.specs.Operations.{cut}
-use Rattle.polyvalues.proofs.polyvalue.cut_condition.Statement.{statement}
-use Rattle.polyvalues.proofs.polyvalue.cut_condition.Tie as tie
+use Rattle.polyvalues.proofs.operations.cut_condition.Statement.{statement}
+use Rattle.polyvalues.proofs.operations.cut_condition.Tie as tie
 
 enum-known-how : tie.Need-enum-known-how
 enum-known-how c = search needs

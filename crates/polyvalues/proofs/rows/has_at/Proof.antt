@@ -1,9 +1,9 @@
 -- A row past the count has no value.
 use borrow.Author.Needs.{needs}
-use mathlib.Core.Path.{sym, _∙_}
+use mathlib.Core.Path.{_∙_}
 use borrow.Author.Tests.{lt-ltb, le-ltb}
-use Rattle.polyvalues.proofs.polyvalue.has_at.Statement.{statement}
-use Rattle.polyvalues.proofs.polyvalue.has_at.Tie as tie
+use Rattle.polyvalues.proofs.rows.has_at.Statement.{statement}
+use Rattle.polyvalues.proofs.rows.has_at.Tie as tie
 
 mul-row : tie.Need-mul-row
 mul-row c = search needs

@@ -1,6 +1,6 @@
 -- The loop's invariant: moving the rows from i on with what is carried gives what is asked.
 use mathlib.Core.Path.{_≡_, refl, sym, _∙_}
-use Prim.Native.Nat.{suc, _+_, _≤_, _<_, _-_}
+use Prim.Native.Nat.{suc, _≤_, _<_, _-_}
 use native.Mathlib.Numerals.{add-one}
 use native.Mathlib.Omega.{arith}
 use lib.ListN.{length, length-set}
@@ -8,8 +8,8 @@ use borrow.Author.Needs.{needs}
 use Rattle.polyvalues.specs.Polyvalues.{room}
 use Rattle.polyvalues.specs.Rows.{moved}
 use Rattle.polyvalues.proofs.Moving.{moved-more, moved-all}
-use Rattle.polyvalues.proofs.polyvalue.moved.Statement.{statement}
-use Rattle.polyvalues.proofs.polyvalue.moved.Tie as tie
+use Rattle.polyvalues.proofs.rows.moved.Statement.{statement}
+use Rattle.polyvalues.proofs.rows.moved.Tie as tie
 
 abbrev Inv-loop : tie.InvT-loop
 Inv-loop k n pairs₀ carry₀ i₀ pairs carry i = (k ≤ i) × (i ≤ suc n) × (n < room) × (length pairs ≡ room) × (moved i n carry pairs ≡ moved k n carry₀ pairs₀)

@@ -6,8 +6,8 @@ use Rattle.polyvalues.specs.declared.polyvalue.Polyvalue.{Polyvalue}
 use Rattle.polyvalues.specs.Simplify.{join}
 use Rattle.polyvalues.proofs.Known.{Held, pairs-long}
 use Rattle.polyvalues.proofs.Inserting.{fitted-yes, in-use-le}
-use Rattle.polyvalues.proofs.polyvalue.with_pair.Statement.{statement}
-use Rattle.polyvalues.proofs.polyvalue.with_pair.Tie as tie
+use Rattle.polyvalues.proofs.rows.with_pair.Statement.{statement}
+use Rattle.polyvalues.proofs.rows.with_pair.Tie as tie
 
 is-empty-requires : tie.Need-is-empty-requires
 is-empty-requires c κs = search needs

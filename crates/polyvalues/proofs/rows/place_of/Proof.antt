@@ -7,9 +7,9 @@ use borrow.Author.Count.{below-more}
 use borrow.Author.Needs.{needs}
 use borrow.Author.Tests.{not-true, not-false}
 use Rattle.polyvalues.specs.Values.{below}
-use Rattle.polyvalues.specs.Rows.{valueAt, PlaceOf}
-use Rattle.polyvalues.proofs.polyvalue.place_of.Statement.{statement}
-use Rattle.polyvalues.proofs.polyvalue.place_of.Tie as tie
+use Rattle.polyvalues.specs.Rows.{valueAt}
+use Rattle.polyvalues.proofs.rows.place_of.Statement.{statement}
+use Rattle.polyvalues.proofs.rows.place_of.Tie as tie
 
 abbrev Inv-loop : tie.InvT-loop
 Inv-loop new q k₀ k = (k ≤ q .count) × ((j : ℕ) → j < k → below (valueAt q j) (new .value) ≡ true)
