@@ -1,6 +1,6 @@
 -- Rows joined one after the other, and answers that there is room or not.
 use mathlib.Core.Path.{_≡_, refl, sym, ap, _∙_}
-use mathlib.Core.Bool.{Bool, true, false, _||_, true≢false}
+use mathlib.Core.Bool.{Bool, true, false, _||_, cond, true≢false}
 use mathlib.Core.List.{List, [], _∷_, _++_}
 use Prim.Native.Nat.{ℕ, suc, _≤_, _<_}
 use native.Mathlib.Omega.{arith}
@@ -14,7 +14,7 @@ use Rattle.polyvalues.specs.declared.polyvalue.Pair.{Pair}
 use Rattle.polyvalues.specs.declared.polyvalue.Polyvalue.{Polyvalue}
 use Rattle.polyvalues.specs.declared.polyvalue.Joined.{Joined}
 use Rattle.polyvalues.specs.declared.operations.Cut.the-variants.{Reduced, Completed, Aborted}
-use Rattle.polyvalues.specs.Pairs.{pair, assignments, noPair, depends}
+use Rattle.polyvalues.specs.Pairs.{pair, assignments, noPair, applies, depends, applying}
 use Rattle.polyvalues.specs.Polyvalues.{room, inUse, packed, fitted}
 use Rattle.polyvalues.specs.Simplify.{join, simplifiedFrom, simplified}
 use Rattle.polyvalues.specs.Operations.{cut, changed, reduce, select}
@@ -78,6 +78,14 @@ depends-more w q p i h = rw (drop-cons (inUse q) i noPair h, in-use-row q i h)
 pub depends-done : (w : ℕ) (rows : List Pair) (p i : ℕ) → length rows ≤ i → depends w (drop i rows) p ≡ false
 unfolding depends
 depends-done w rows p i h = rw (drop-of-length-le rows h)
+
+-- one row more that does not apply
+pub applying-more : (q : Polyvalue) (a i : ℕ) → i < length (inUse q)
+    → applying (drop i (inUse q)) a ≡ cond (applies (getD (q .pairs) i noPair) a) (getD (q .pairs) i noPair) (applying (drop (suc i) (inUse q)) a)
+applying-more q a i h = rw (drop-cons (inUse q) i noPair h, in-use-row q i h)
+
+pub applying-done : (rows : List Pair) (a i : ℕ) → length rows ≤ i → applying (drop i rows) a ≡ noPair
+applying-done rows a i h = rw (drop-of-length-le rows h)
 
 -- ---- reduce and select
 

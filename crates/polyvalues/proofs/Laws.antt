@@ -1,6 +1,7 @@
 -- What is true of the definitions in specs/. The crates above cite these laws and open no definition.
 pub mod Values
 pub mod Holds
+pub mod Applying
 pub mod Join
 pub mod Simplify
 pub mod Canon

@@ -35,6 +35,11 @@ abbrev pub at : List Pair → ℕ → ℤ
 at [] a = pos 0
 at (p ∷ ps) a = cond (applies p a) (p .value) (at ps a)
 
+-- the first pair that applies under a, and a row of zeros where none does
+abbrev pub applying : List Pair → ℕ → Pair
+applying [] a = noPair
+applying (p ∷ ps) a = cond (applies p a) p (applying ps a)
+
 -- how many pairs apply under a
 abbrev pub hits : List Pair → ℕ → ℕ
 hits [] a = 0

@@ -2,7 +2,7 @@
 ghost use mathlib.Core.Path.{_≡_};
 ghost use Rattle.conditions.specs.Places.{places};
 ghost use Rattle.conditions.specs.Conditions.{number};
-ghost use Rattle.polyvalues.specs.Pairs.{pair, assignments, depends};
+ghost use Rattle.polyvalues.specs.Pairs.{pair, assignments, depends, applying};
 ghost use Rattle.polyvalues.specs.Polyvalues.{inUse, packed, fitted};
 ghost use Rattle.polyvalues.specs.Simplify.{join, simplifiedFrom};
 ghost use Rattle.polyvalues.specs.Operations.{cut, changed, reduce, select};
@@ -124,5 +124,24 @@ impl Polyvalue {
             i += 1;
         }
         false
+    }
+
+    // The first pair that applies under the assignment, or a row of zeros where none does.
+    pub fn applying(self, assignment: usize) -> Pair
+        ensures { λ r. ⌜ r ≡ applying (inUse self) assignment ⌝ }
+    {
+        let n = self.len();
+        let mut i: usize = 0;
+        while i < n {
+            let row = self.pairs[i];
+            if row.condition.contains(assignment) {
+                return row;
+            }
+            i += 1;
+        }
+        Pair {
+            value: 0,
+            condition: Condition::EMPTY,
+        }
     }
 }
