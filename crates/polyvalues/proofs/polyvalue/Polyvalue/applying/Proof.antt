@@ -34,7 +34,7 @@ contains-requires : tie.Need-contains-requires Inv-loop μ-loop
 contains-requires c κs = search needs
 
 returns : tie.Need-returns Inv-loop μ-loop
-returns c = 
+returns c =
     let row = applying-more (c .before .before .before .before .before .before .args .t1) (c .before .before .before .before .before .before .args .assignment) (c .before .before .before .before .loop .i) (omega (arith, c .before .before .before .before .before .len .ensures .0)) in
     ap (λ (b : Bool). cond b (getD (c .before .before .before .before .before .before .args .t1 .pairs) (c .before .before .before .before .loop .i) noPair) (applying (drop (suc (c .before .before .before .before .loop .i)) (inUse (c .before .before .before .before .before .before .args .t1))) (c .before .before .before .before .before .before .args .assignment))) (sym (sym (c .before .contains .ensures) ∙ c .if1 .taken))
     ∙ sym row ∙ c .before .before .before .before .loop .inv
@@ -46,7 +46,7 @@ loop-less : tie.Need-loop-less Inv-loop μ-loop
 loop-less c = omega arith
 
 loop-again : tie.Need-loop-again Inv-loop μ-loop
-loop-again c = 
+loop-again c =
     let row = applying-more (c .before .before .before .before .before .before .args .t1) (c .before .before .before .before .before .before .args .assignment) (c .before .before .before .before .loop .i) (omega (arith, c .before .before .before .before .before .len .ensures .0)) in
     rw add-one
     (ap (λ (b : Bool). cond b (getD (c .before .before .before .before .before .before .args .t1 .pairs) (c .before .before .before .before .loop .i) noPair) (applying (drop (suc (c .before .before .before .before .loop .i)) (inUse (c .before .before .before .before .before .before .args .t1))) (c .before .before .before .before .before .before .args .assignment))) (sym (sym (c .before .contains .ensures) ∙ c .if1 .left))
