@@ -1,5 +1,5 @@
 pub mod Laws
-mod Bits
+pub mod Bits
 pub mod Known
 mod Moving
 mod Inserting

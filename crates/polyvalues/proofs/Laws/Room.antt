@@ -78,7 +78,7 @@ different-rising (p ∷ ps) r = rw (rises-once (p .value) ps r, different-rising
 
 -- ---- as code counts them, where each list has a value once: those of the one that are not in the other, and the other's
 
-occurs-append : (u : ℤ) (ps qs : List Pair) → occurs u (ps ++ qs) ≡ (occurs u ps || occurs u qs)
+pub occurs-append : (u : ℤ) (ps qs : List Pair) → occurs u (ps ++ qs) ≡ (occurs u ps || occurs u qs)
 occurs-append u [] qs = refl
 occurs-append u (p ∷ ps) qs = rw (occurs-append u ps qs) (sym (or-assoc (equal u (p .value)) (occurs u ps) (occurs u qs)))
 
@@ -95,7 +95,7 @@ together-rising (p ∷ ps) qs r s =
 -- ---- selecting
 
 -- a test of the values that a list has
-each-occurs : (f : ℤ → Bool) (ps : List Pair) → each (λ p. f (p .value)) ps ≡ true → (u : ℤ) → occurs u ps ≡ true → f u ≡ true
+pub each-occurs : (f : ℤ → Bool) (ps : List Pair) → each (λ p. f (p .value)) ps ≡ true → (u : ℤ) → occurs u ps ≡ true → f u ≡ true
 each-occurs f [] e u o = absurd (false≢true o)
 each-occurs f (p ∷ ps) e u o =
     by-cases (equal u (p .value))

@@ -1,0 +1,221 @@
+-- Give up: sound in, sound out.
+use mathlib.Core.Path.{_≡_, refl, sym, _∙_, ap}
+use mathlib.Core.Bool.{Bool, true, false, cond, true≢false, and-true}
+use Prim.Native.Nat.{ℕ, _≤_, _<_}
+use native.Mathlib.Omega.{arith}
+use lib.Dec.{eqb, ltb}
+use lib.ListN.{length, length-set}
+use borrow.Author.Tests.{eqb-true, ne-eqb, ltb-true, ltb-false}
+use Rattle.conditions.proofs.Laws.Below.{by-cases}
+use Rattle.book.specs.declared.Record.{Record}
+use Rattle.book.specs.declared.Item.{Item}
+use Rattle.book.specs.declared.Open.{Open}
+use Rattle.book.specs.declared.Book.{Book}
+use Rattle.book.specs.Book.{mostDistricts, mostItems, noRecord, noOpen, voidItem, recordAt, itemAt, openAt, recordOn, itemOn, isOpen, placeOf, itemDepends}
+use Rattle.book.specs.Records.{computingOn, busyOn}
+use Rattle.book.specs.Items.{there, concerned, drop, split}
+use Rattle.book.specs.GiveUp.{giveUpItem, marked, gaveUp}
+use Rattle.book.specs.Transactions.{openOf}
+use Rattle.book.specs.Sound.{Sound}
+use Rattle.book.proofs.Laws.Rows.{length-rows, past-rows}
+use Rattle.book.proofs.Laws.Sound.{place-named}
+use Rattle.book.proofs.Laws.Including.{including-other, including-lt}
+use Rattle.book.proofs.Laws.Shaped.{ShapedItem, Shaped, getD-set}
+use Rattle.book.proofs.Laws.Values.{give-up-item}
+use Rattle.book.proofs.Laws.But.{DistrictRow, ItemRow, OpenRow, SoundBut, sound-but, idle-district, Seen, seen-same, district-stays, item-stays, place-open, computing-on, busy-is}
+use Rattle.book.proofs.Laws.Changing.{change-but}
+use Rattle.book.proofs.Laws.Settling.{neither-depends, depends-neither, idle-row, split-sound, split-shaped, split-free, concerned-busy}
+
+module _ (w : ℕ) (b : Book) (sound : Sound w b) (t : Shaped w b) (n d : ℕ) (p : placeOf w b n < w) (l : d < b .districts) (on : busyOn n (recordAt b d) ≡ true) where
+  abbrev q : ℕ
+  q = placeOf w b n
+
+  abbrev o : Open
+  o = openOf w b n
+
+  abbrev r : Record
+  r = recordAt b d
+
+  abbrev c : Book
+  c = gaveUp w b n d
+
+  abbrev early : Bool
+  early = computingOn n r
+
+  s : SoundBut w b
+  s = sound-but w b sound
+
+  few : (e : ℕ) → e < b .districts → e < mostDistricts
+  few e h = omega (arith, sound .fewDistricts)
+
+  number : r .transaction .0 ≡ n
+  number = busy-is n r on .1
+
+  was : DistrictRow w d q o r
+  was = rw number at (s .districts d l)
+
+  records : (e : ℕ) → recordAt c e ≡ cond (eqb e d) noRecord (recordAt b e)
+  unfolding gaveUp
+  records e = getD-set (b .records) d noRecord noRecord e (omega (arith, few d l, t .records))
+
+  -- ---- the transaction
+
+  abbrev new : Open
+  new = cond early (marked d o) o
+
+  opens : (m : ℕ) → openAt c m ≡ cond (eqb m q) new (openAt b m)
+  unfolding gaveUp
+  opens m =
+      by-cases early
+      (λ e. rw e (getD-set (b .«open») q (marked d o) noOpen m (omega (arith, t .places))))
+      (λ e. rw e (by-cases (eqb m q) (λ z. rw (z, eqb-true m q z)) (λ z. rw z)))
+
+  old : OpenRow (b .districts) (b .last .0) o
+  old = s .opens q p (place-open w b n p)
+
+  markedRow : early ≡ true → OpenRow (b .districts) (b .last .0) (marked d o)
+  markedRow e = record {
+    touched = old .touched;
+    ready = old .ready;
+    gave = including-lt (b .districts) (o .gave) d (sound .fewDistricts) (old .gave) l;
+    decisions = old .decisions;
+    given = old .given;
+    apart = λ f h k.
+        by-cases (eqb f d)
+        (λ m. absurd (true≢false (sym k ∙ rw (eqb-true f d m) (was .computingNotReady (computing-on n r e .0)))))
+        (λ m. including-other (o .gave) d f (few f h) m ∙ old .apart f h k);
+    readyTouched = old .readyTouched;
+    gaveTouched = λ f h k.
+        by-cases (eqb f d)
+        (λ m. rw (eqb-true f d m) (was .busyTouched (busy-is n r on .0)))
+        (λ m. old .gaveTouched f h (sym (including-other (o .gave) d f (few f h) m) ∙ k));
+    completedReady = old .completedReady;
+  }
+
+  row : OpenRow (b .districts) (b .last .0) new
+  row = by-cases early (λ e. rw e (markedRow e)) (λ e. rw e old)
+
+  -- ---- districts
+
+  newSeen : (e : ℕ) → e < b .districts → eqb e d ≡ false → Seen e o new
+  newSeen e h k =
+      by-cases early
+      (λ z. rw z (record { touched = refl; ready = refl; gave = including-other (o .gave) d e (few e h) k }))
+      (λ z. rw z (seen-same e o o refl))
+
+  seen : (e m : ℕ) → e < b .districts → eqb e d ≡ false → Seen e (openAt b m) (openAt c m)
+  seen e m h k =
+      by-cases (eqb m q)
+      (λ z. rw (opens m, z, eqb-true m q z) (newSeen e h k))
+      (λ z. seen-same e (openAt b m) (openAt c m) (opens m ∙ rw z))
+
+  districts : (e : ℕ) → e < b .districts → DistrictRow w e (placeOf w b (recordAt c e .transaction .0)) (openAt c (placeOf w b (recordAt c e .transaction .0))) (recordAt c e)
+  districts e h =
+      by-cases (eqb e d)
+      (λ k. rw (records e, k, eqb-true e d k) (idle-district w d _ _))
+      (λ k. rw (records e, k) (district-stays w e _ _ _ _ (recordAt b e) (s .districts e h) (λ z. refl) (λ z. seen e _ h k)))
+
+  -- ---- items
+
+  -- what becomes of an item of the district
+  abbrev settled : Item → Item
+  settled x = let either : Item = split w q x in cond early (drop x) either
+
+  onIt : (x : Item) → concerned b n d x ≡ there d x
+  onIt x = concerned-busy b n d (sound .phases d l) (place-named w b n p .1) x ∙ rw on (and-true (there d x))
+
+  itemThere : (x : Item) → there d x ≡ true → giveUpItem w b n d q early x ≡ settled x
+  unfolding giveUpItem
+  itemThere x k = rw (onIt x, k)
+
+  itemElse : (x : Item) → there d x ≡ false → giveUpItem w b n d q early x ≡ x
+  unfolding giveUpItem
+  itemElse x k = rw (onIt x, k)
+
+  onThere : (x : Item) → there d x ≡ true → itemOn c x ≡ 0
+  unfolding itemOn recordOn
+  onThere x k = rw (records (x .district), k)
+
+  onElse : (x : Item) → there d x ≡ false → itemOn c x ≡ itemOn b x
+  unfolding itemOn
+  onElse x k = rw (records (x .district), k)
+
+  settledRow : (m u : ℕ) (x : Item) → ItemRow w (b .districts) m u x → there d x ≡ true → (v : ℕ) → ItemRow w (b .districts) (itemOn c (settled x)) v (settled x)
+  unfolding split
+  settledRow m u x f k v =
+      by-cases early
+      (λ e. rw e (idle-row w (b .districts) _ v (drop x) (f .belongs) (f .held) refl (onThere (drop x) k)))
+      (λ e. rw e (idle-row w (b .districts) _ v (split w q x) (f .belongs) (split-sound w (b .districts) m u x f q) refl (onThere (split w q x) k)))
+
+  items : (i : ℕ) → i < b .count → ItemRow w (b .districts) (itemOn c (itemAt c i)) (placeOf w b (itemOn c (itemAt c i))) (itemAt c i)
+  items i h =
+      let x : Item = itemAt b i in
+      by-cases (there d x)
+      (λ k. rw (give-up-item w b sound t n d i h, itemThere x k) (settledRow _ _ x (s .items i h) k _))
+      (λ k. rw (give-up-item w b sound t n d i h, itemElse x k)
+      (item-stays w (b .districts) _ _ _ _ x (s .items i h) (onElse x k) (λ z. ap (placeOf w b) (onElse x k))))
+
+  settledFree : (m u : ℕ) (x : Item) → ItemRow w (b .districts) m u x → (j : ℕ) → (q ≡ j → ⊥) → itemDepends w x j ≡ false → itemDepends w (settled x) j ≡ false
+  settledFree m u x f j apart e =
+      by-cases early
+      (λ z. rw z (depends-neither w (drop x) j (neither-depends w x j e .0) (neither-depends w x j e .0)))
+      (λ z. rw z (split-free w (b .districts) m u x f q j apart e))
+
+  freeUnused : (j : ℕ) → j < w → isOpen (openAt b j) ≡ false → (i : ℕ) → i < b .count → itemDepends w (itemAt c i) j ≡ false
+  freeUnused j h k i a =
+      let x : Item = itemAt b i in
+      by-cases (there d x)
+      (λ z. rw (give-up-item w b sound t n d i a, itemThere x z)
+      (settledFree _ _ x (s .items i a) j (λ e. true≢false (sym (place-open w b n p) ∙ rw e k)) (s .freeUnused j h k i a)))
+      (λ z. rw (give-up-item w b sound t n d i a, itemElse x z) (s .freeUnused j h k i a))
+
+  past : (i : ℕ) → b .count ≤ i → itemAt c i ≡ itemAt b i
+  unfolding gaveUp
+  past i h = past-rows (λ i x. giveUpItem w b n d q early x) voidItem (b .count) (b .items) i h
+
+  -- ---- the book
+
+  pub give-up-but : SoundBut w (gaveUp w b n d)
+  unfolding gaveUp
+  give-up-but =
+      change-but w b s _ _ _ q new (record {
+        place = p;
+        wasOpen = place-open w b n p;
+        number = by-cases early (λ e. rw e) (λ e. rw e);
+        opens = opens;
+        row = row;
+        districts = districts;
+        items = items;
+        pastDistricts = λ e h k. records e ∙ rw (ne-eqb e d (λ z. omega arith)) (s .pastDistricts e h k);
+        pastItems = λ i h k. past i k ∙ s .pastItems i h k;
+        freeUnused = freeUnused;
+      })
+
+  settledShaped : (m u : ℕ) (x : Item) → ItemRow w (b .districts) m u x → ShapedItem x → ShapedItem (settled x)
+  settledShaped m u x f a =
+      by-cases early
+      (λ z. rw z (record { held = a .held; pending = a .held }))
+      (λ z. rw z (split-shaped w (b .districts) m u x f q))
+
+  shapedAt : (i : ℕ) → i < mostItems → ShapedItem (itemAt c i)
+  shapedAt i h =
+      let x : Item = itemAt b i in
+      by-cases (ltb i (b .count))
+      (λ k. let a : i < b .count = ltb-true i (b .count) k in
+      by-cases (there d x)
+      (λ z. rw (give-up-item w b sound t n d i a, itemThere x z) (settledShaped _ _ x (s .items i a) (t .rows i h)))
+      (λ z. rw (give-up-item w b sound t n d i a, itemElse x z) (t .rows i h)))
+      (λ k. rw (past i (ltb-false i (b .count) k)) (t .rows i h))
+
+  lengthOpen : length (c .«open») ≡ w
+  unfolding gaveUp
+  lengthOpen = by-cases early (λ e. rw e (length-set (b .«open») q (marked d o) ∙ t .places)) (λ e. rw e (t .places))
+
+  pub give-up-shaped : Shaped w (gaveUp w b n d)
+  unfolding gaveUp
+  give-up-shaped = record {
+    records = length-set (b .records) d _ ∙ t .records;
+    items = length-rows (λ i x. giveUpItem w b n d q early x) voidItem (b .count) (b .items) ∙ t .items;
+    places = lengthOpen;
+    rows = shapedAt;
+  }

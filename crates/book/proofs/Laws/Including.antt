@@ -1,0 +1,36 @@
+-- A set of districts with one more district.
+use mathlib.Core.Path.{_≡_, sym, _∙_}
+use mathlib.Core.Bool.{true, false, cond}
+use Prim.Native.Nat.{ℕ, _^_, _≤_, _<_}
+use native.Mathlib.Omega.{arith}
+use lib.Dec.{eqb, ltb}
+use lib.Pow.{pow-mono}
+use borrow.Author.Tests.{ltb-true, ltb-false, ne-eqb}
+use Rattle.conditions.specs.Sets.{member}
+use Rattle.conditions.specs.Places.{withPlace}
+use Rattle.conditions.proofs.Laws.Below.{by-cases}
+use Rattle.conditions.proofs.Laws.Sets.{member-past}
+use Rattle.conditions.proofs.Laws.Places.{place-lt, member-place, member-set, is-place}
+use Rattle.book.specs.Book.{mostDistricts, including}
+
+-- its districts
+pub member-including : (s d e : ℕ) → e < mostDistricts → member (including s d) e ≡ cond (eqb e d) true (member s e)
+member-including s d e h = member-place mostDistricts s d true e h
+
+pub including-own : (s d : ℕ) → d < mostDistricts → member (including s d) d ≡ true
+including-own s d h = member-set mostDistricts s d true h
+
+pub including-other : (s d e : ℕ) → e < mostDistricts → eqb e d ≡ false → member (including s d) e ≡ member s e
+including-other s d e h n = member-including s d e h ∙ rw n
+
+-- a set of the first k districts stays one
+pub including-lt : (k s d : ℕ) → k ≤ mostDistricts → s < 2 ^ k → d < k → including s d < 2 ^ k
+including-lt k s d l h i = rw (sym (is-place mostDistricts s d true (withPlace k s d true) (omega (arith, place-lt k s d true, pow-mono l)) same)) (place-lt k s d true)
+  where
+    same : (j : ℕ) → j < mostDistricts → member (withPlace k s d true) j ≡ cond (eqb j d) true (member s j)
+    same j _ =
+        by-cases (ltb j k)
+        (λ t. member-place k s d true j (ltb-true j k t))
+        (λ t.
+        let past : k ≤ j = ltb-false j k t in
+        member-past k (withPlace k s d true) j (place-lt k s d true) past ∙ sym (rw (ne-eqb j d (λ e. omega arith)) (member-past k s j h past)))

@@ -1,0 +1,46 @@
+-- An opened book has the lengths that code gives it, and so is whole: what the laws of the calls ask for is there from the start.
+use mathlib.Core.Path.{_≡_}
+use mathlib.Core.Bool.{true}
+use mathlib.Core.List.{List, [], _∷_, _++_, map}
+use Prim.Native.Nat.{ℕ, zero, suc, _+_, _-_, _≤_, _<_}
+use native.Mathlib.Omega.{arith}
+use lib.Dec.{leb}
+use lib.ListN.{length, getD, replicate, length-append, length-map, length-replicate}
+use borrow.Author.Tests.{leb-true}
+use Rattle.polyvalues.specs.Pairs.{certain}
+use Rattle.book.specs.declared.Opening.{Opening}
+use Rattle.book.specs.Book.{mostDistricts, mostItems, noRecord, noItem, noOpen, voidItem}
+use Rattle.book.specs.Open.{goodItems, goodOpening, openedItem, openedBook, opened}
+use Rattle.book.proofs.Laws.Same.{five}
+use Rattle.book.proofs.Laws.Open.{opened-sound}
+use Rattle.book.proofs.Laws.Shaped.{ShapedItem, Shaped}
+use Rattle.book.proofs.Laws.Settling.{packed-length}
+use Rattle.book.proofs.Laws.Calls.{Whole}
+
+opened-item-shaped : (w : ℕ) (x : Opening) → ShapedItem (openedItem w x)
+unfolding openedItem certain
+opened-item-shaped w x = let e = packed-length (certain w (x .value)) (omega arith) in record { held = e; pending = e }
+
+no-item-shaped : ShapedItem noItem
+unfolding noItem
+no-item-shaped = let e = packed-length [] (omega arith) in record { held = e; pending = e }
+
+rows-shaped : (w : ℕ) (xs : List Opening) (n i : ℕ) → i < length xs + n → ShapedItem (getD (map (openedItem w) xs ++ replicate n noItem) i voidItem)
+rows-shaped w [] zero i h = absurd (omega arith)
+rows-shaped w [] (suc n) zero h = no-item-shaped
+rows-shaped w [] (suc n) (suc i) h = rows-shaped w [] n i (omega arith)
+rows-shaped w (x ∷ xs) n zero h = opened-item-shaped w x
+rows-shaped w (x ∷ xs) n (suc i) h = rows-shaped w xs n i (omega arith)
+
+pub opened-whole : (w districts : ℕ) (xs : List Opening) → goodOpening districts xs ≡ true → Whole w (opened w districts xs)
+unfolding goodOpening opened openedBook
+opened-whole w districts xs e =
+    let few : length xs ≤ mostItems =
+    leb-true (length xs) mostItems (five (leb 1 districts) (leb districts mostDistricts) (leb 1 (length xs)) (leb (length xs) mostItems) (goodItems districts xs) e .3) in
+    let shaped : Shaped w (openedBook w districts xs) = record {
+      records = length-replicate mostDistricts noRecord;
+      items = omega (arith, length-append (map (openedItem w) xs) (replicate (mostItems - length xs) noItem), length-map xs (openedItem w), length-replicate (mostItems - length xs) noItem);
+      places = length-replicate w noOpen;
+      rows = λ i h. rows-shaped w xs (mostItems - length xs) i (omega arith);
+    } in
+    record { sound = opened-sound w districts xs e; shaped = rw e shaped }

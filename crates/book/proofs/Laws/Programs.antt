@@ -1,0 +1,174 @@
+-- What a program does to touched items depends on touched items alone; it changes no other; and what it gives is a value.
+use mathlib.Core.Path.{_≡_, refl, _∙_, ap}
+use mathlib.Core.Bool.{Bool, true, false, not, _&&_, _||_, cond}
+use mathlib.Core.List.{List, [], _∷_}
+use Prim.Native.Nat.{ℕ, suc}
+use native.Mathlib.Omega.{arith}
+use lib.Dec.{eqb, leb}
+use lib.IntN.{ℤ, _+ℤ_}
+use borrow.Author.Tests.{eq-eqb, eqb-true, not-false}
+use Rattle.conditions.proofs.Laws.Below.{or-left, or-right, by-cases}
+use Rattle.polyvalues.specs.Values.{inRange}
+use Rattle.book.specs.declared.Step.{Step}
+use Rattle.book.specs.Programs.{isAdd, isSet, isCopy, numbered, takes, declines, after, afterAll, declinedFrom, declined, run, names, touches}
+use Rattle.book.specs.Begin.{someStep, badStep}
+
+or-true : (y : Bool) → (y || true) ≡ true
+or-true true = refl
+or-true false = refl
+
+or-first : (x y : Bool) → x ≡ true → (x || y) ≡ true
+or-first x y e = rw e
+
+or-second : (x y : Bool) → y ≡ true → (x || y) ≡ true
+or-second x y e = rw e (or-true x)
+
+-- ---- what a step names
+
+names-item : (x : Step) → names x (x .item) ≡ true
+unfolding names
+names-item x = or-first _ _ (eq-eqb (x .item) (x .item) refl)
+
+names-source : (x : Step) → isCopy x ≡ true → names x (numbered (x .operand)) ≡ true
+unfolding names
+names-source x c = or-second (eqb (x .item) (numbered (x .operand))) _ (rw (c, eq-eqb (numbered (x .operand)) (numbered (x .operand)) refl))
+
+-- a state stays as it is at an item that a step does not name
+takes-other : (s : ℕ → ℤ) (i : ℕ) (v : ℤ) (j : ℕ) → eqb i j ≡ false → takes s i v j ≡ s j
+takes-other s i v j e = rw e
+
+pub after-other : (x : Step) (s : ℕ → ℤ) (j : ℕ) → names x j ≡ false → after x s j ≡ s j
+unfolding names after
+after-other x s j e = go (isAdd x) (isSet x) (isCopy x)
+  where
+    other : eqb (x .item) j ≡ false
+    other = or-left (eqb (x .item) j) _ e
+
+    go : (a b c : Bool) → cond a (takes s (x .item) (s (x .item) +ℤ x .operand)) (cond b (takes s (x .item) (x .operand)) (cond c (takes s (x .item) (s (numbered (x .operand)))) s)) j ≡ s j
+    go true b c = takes-other s (x .item) _ j other
+    go false true c = takes-other s (x .item) _ j other
+    go false false true = takes-other s (x .item) _ j other
+    go false false false = refl
+
+-- ---- two states that agree on a set of items
+
+module _ (U : ℕ → Bool) (s t : ℕ → ℤ) (agree : (j : ℕ) → U j ≡ true → s j ≡ t j) (x : Step) (inside : (j : ℕ) → names x j ≡ true → U j ≡ true) where
+  at-item : s (x .item) ≡ t (x .item)
+  at-item = agree (x .item) (inside (x .item) (names-item x))
+
+  takes-agree : (v u : ℤ) → v ≡ u → (j : ℕ) → U j ≡ true → takes s (x .item) v j ≡ takes t (x .item) u j
+  takes-agree v u e j k = rw (e, agree j k)
+
+  pub after-agree : (j : ℕ) → U j ≡ true → after x s j ≡ after x t j
+  unfolding after
+  after-agree j k = go (isAdd x) (isSet x) (isCopy x) refl
+    where
+      go : (a b c : Bool) → isCopy x ≡ c
+          → cond a (takes s (x .item) (s (x .item) +ℤ x .operand)) (cond b (takes s (x .item) (x .operand)) (cond c (takes s (x .item) (s (numbered (x .operand)))) s)) j
+          ≡ cond a (takes t (x .item) (t (x .item) +ℤ x .operand)) (cond b (takes t (x .item) (x .operand)) (cond c (takes t (x .item) (t (numbered (x .operand)))) t)) j
+      go true b c e = takes-agree _ _ (ap (λ (v : ℤ). v +ℤ x .operand) at-item) j k
+      go false true c e = takes-agree _ _ refl j k
+      go false false true e = takes-agree _ _ (agree (numbered (x .operand)) (inside (numbered (x .operand)) (names-source x e))) j k
+      go false false false e = agree j k
+
+  pub declines-agree : declines x s ≡ declines x t
+  unfolding declines
+  declines-agree = rw at-item
+
+-- ---- programs
+
+inside-head : (U : ℕ → Bool) (x : Step) (xs : List Step) → ((j : ℕ) → touches (x ∷ xs) j ≡ true → U j ≡ true) → (j : ℕ) → names x j ≡ true → U j ≡ true
+unfolding touches
+inside-head U x xs f j e = f j (or-first (names x j) (touches xs j) e)
+
+inside-tail : (U : ℕ → Bool) (x : Step) (xs : List Step) → ((j : ℕ) → touches (x ∷ xs) j ≡ true → U j ≡ true) → (j : ℕ) → touches xs j ≡ true → U j ≡ true
+unfolding touches
+inside-tail U x xs f j e = f j (or-second (names x j) (touches xs j) e)
+
+afterAll-agree : (U : ℕ → Bool) (xs : List Step) (s t : ℕ → ℤ) → ((j : ℕ) → touches xs j ≡ true → U j ≡ true)
+    → ((j : ℕ) → U j ≡ true → s j ≡ t j) → (i : ℕ) → U i ≡ true → afterAll xs s i ≡ afterAll xs t i
+unfolding afterAll
+afterAll-agree U [] s t inside agree i k = agree i k
+afterAll-agree U (x ∷ xs) s t inside agree i k =
+    afterAll-agree U xs (after x s) (after x t) (inside-tail U x xs inside) (after-agree U s t agree x (inside-head U x xs inside)) i k
+
+declined-agree : (U : ℕ → Bool) (k : ℕ) (xs : List Step) (s t : ℕ → ℤ) → ((j : ℕ) → touches xs j ≡ true → U j ≡ true)
+    → ((j : ℕ) → U j ≡ true → s j ≡ t j) → declinedFrom k xs s ≡ declinedFrom k xs t
+unfolding declinedFrom
+declined-agree U k [] s t inside agree = refl
+declined-agree U k (x ∷ xs) s t inside agree =
+    rw (
+      declines-agree U s t agree x (inside-head U x xs inside),
+      declined-agree U (suc k) xs (after x s) (after x t) (inside-tail U x xs inside) (after-agree U s t agree x (inside-head U x xs inside)),
+    )
+
+-- two states that agree on the touched items: the same step declines
+pub declined-reads : (xs : List Step) (s t : ℕ → ℤ) → ((j : ℕ) → touches xs j ≡ true → s j ≡ t j) → declined xs s ≡ declined xs t
+declined-reads xs s t agree = declined-agree (touches xs) 1 xs s t (λ j e. e) agree
+
+-- and the touched items get the same values
+pub run-reads : (xs : List Step) (s t : ℕ → ℤ) → ((j : ℕ) → touches xs j ≡ true → s j ≡ t j) → (i : ℕ) → touches xs i ≡ true → run xs s i ≡ run xs t i
+unfolding run
+run-reads xs s t agree i k = rw (declined-reads xs s t agree) (go (eqb (declined xs t) 0))
+  where
+    go : (b : Bool) → cond b (afterAll xs s) s i ≡ cond b (afterAll xs t) t i
+    go true = afterAll-agree (touches xs) xs s t (λ j e. e) agree i k
+    go false = agree i k
+
+afterAll-frame : (xs : List Step) (s : ℕ → ℤ) (i : ℕ) → touches xs i ≡ false → afterAll xs s i ≡ s i
+unfolding afterAll touches
+afterAll-frame [] s i e = refl
+afterAll-frame (x ∷ xs) s i e = afterAll-frame xs (after x s) i (or-right (names x i) (touches xs i) e) ∙ after-other x s i (or-left (names x i) (touches xs i) e)
+
+-- an item that is not touched is unchanged
+pub run-frame : (xs : List Step) (s : ℕ → ℤ) (i : ℕ) → touches xs i ≡ false → run xs s i ≡ s i
+unfolding run
+run-frame xs s i e = go (eqb (declined xs s) 0)
+  where
+    go : (b : Bool) → cond b (afterAll xs s) s i ≡ s i
+    go true = afterAll-frame xs s i e
+    go false = refl
+
+-- ---- values
+
+-- where every touched item has a value in range, a step that is good and does not decline leaves it so
+after-range : (U : ℕ → Bool) (x : Step) (s : ℕ → ℤ) → ((j : ℕ) → names x j ≡ true → U j ≡ true) → ((j : ℕ) → U j ≡ true → inRange (s j) ≡ true)
+    → badStep x ≡ false → declines x s ≡ false → (j : ℕ) → U j ≡ true → inRange (after x s j) ≡ true
+unfolding after declines badStep
+after-range U x s inside range good on j k =
+    go (isAdd x) refl (isSet x) refl (isCopy x) refl
+  where
+    put : (v : ℤ) → inRange v ≡ true → inRange (takes s (x .item) v j) ≡ true
+    put v e = by-cases (eqb (x .item) j) (λ m. rw (m, e)) (λ m. rw (m, range j k))
+
+    go : (a : Bool) → isAdd x ≡ a → (b : Bool) → isSet x ≡ b → (c : Bool) → isCopy x ≡ c
+        → inRange (cond a (takes s (x .item) (s (x .item) +ℤ x .operand)) (cond b (takes s (x .item) (x .operand)) (cond c (takes s (x .item) (s (numbered (x .operand)))) s)) j) ≡ true
+    go true e b f c g =
+        let other : eqb (x .kind) 1 ≡ false = ap (λ (n : ℕ). eqb n 1) (eqb-true (x .kind) 2 e) in
+        put _ (not-false _ (rw (other, e) at on))
+    go false e true f c g =
+        let other : eqb (x .kind) 4 ≡ false = ap (λ (n : ℕ). eqb n 4) (eqb-true (x .kind) 3 f) in
+        put _ (not-false _ (rw other at (or-right (not (leb 1 (x .kind) && leb (x .kind) 4)) _ good)))
+    go false e false f true g = put _ (range (numbered (x .operand)) (inside (numbered (x .operand)) (names-source x g)))
+    go false e false f false g = range j k
+
+afterAll-range : (U : ℕ → Bool) (k : ℕ) (xs : List Step) (s : ℕ → ℤ) → ((j : ℕ) → touches xs j ≡ true → U j ≡ true)
+    → ((j : ℕ) → U j ≡ true → inRange (s j) ≡ true) → someStep badStep xs ≡ false → declinedFrom (suc k) xs s ≡ 0 → (i : ℕ) → U i ≡ true → inRange (afterAll xs s i) ≡ true
+unfolding afterAll declinedFrom
+afterAll-range U k [] s inside range good on i h = range i h
+afterAll-range U k (x ∷ xs) s inside range good on i h =
+    by-cases (declines x s)
+    (λ e. let never : suc k ≡ 0 = rw e at on in absurd (omega arith))
+    (λ e.
+    afterAll-range U (suc k) xs (after x s) (inside-tail U x xs inside)
+    (after-range U x s (inside-head U x xs inside) range (or-left (badStep x) _ good) e)
+    (or-right (badStep x) _ good) (rw e at on) i h)
+
+-- a good program gives touched items values, where they had values
+pub run-range : (xs : List Step) (s : ℕ → ℤ) → someStep badStep xs ≡ false → ((j : ℕ) → touches xs j ≡ true → inRange (s j) ≡ true)
+    → (i : ℕ) → touches xs i ≡ true → inRange (run xs s i) ≡ true
+unfolding run
+run-range xs s good range i h =
+    by-cases (eqb (declined xs s) 0)
+    (λ e. rw e (afterAll-range (touches xs) 0 xs s (λ j k. k) range good (eqb-true (declined xs s) 0 e) i h))
+    (λ e. rw e (range i h))

@@ -1,0 +1,140 @@
+-- Ready: sound in, sound out.
+use mathlib.Core.Path.{_≡_, refl, sym, _∙_, ap}
+use mathlib.Core.Bool.{true, false, cond, false≢true}
+use Prim.Native.Nat.{ℕ, _<_}
+use native.Mathlib.Omega.{arith}
+use lib.Dec.{eqb}
+use lib.ListN.{length-set}
+use borrow.Author.Tests.{eqb-true, eq-eqb, ne-eqb}
+use Rattle.conditions.proofs.Laws.Below.{by-cases}
+use Rattle.book.specs.declared.Record.{Record}
+use Rattle.book.specs.declared.Item.{Item}
+use Rattle.book.specs.declared.Open.{Open}
+use Rattle.book.specs.declared.Book.{Book}
+use Rattle.book.specs.Book.{mostDistricts, noRecord, noOpen, recordAt, itemAt, openAt, idle, recordOn, itemOn, placeOf}
+use Rattle.book.specs.Records.{computingOn, readyRecord}
+use Rattle.book.specs.Ready.{reported, readied}
+use Rattle.book.specs.Transactions.{openOf}
+use Rattle.book.proofs.Laws.Including.{including-own, including-other, including-lt}
+use Rattle.book.proofs.Laws.Shaped.{Shaped, getD-set}
+use Rattle.book.proofs.Laws.But.{DistrictRow, OpenRow, SoundBut, Seen, seen-same, district-stays, item-stays, place-open, computing-on}
+use Rattle.book.proofs.Laws.Changing.{change-but}
+
+pub ready-shaped : (w : ℕ) (b : Book) (n d : ℕ) → Shaped w b → Shaped w (readied w b n d)
+unfolding readied
+ready-shaped w b n d t = record {
+  records = length-set (b .records) d _ ∙ t .records;
+  items = t .items;
+  places = length-set (b .«open») (placeOf w b n) _ ∙ t .places;
+  rows = t .rows;
+}
+
+module _ (w : ℕ) (b : Book) (s : SoundBut w b) (t : Shaped w b) (n d : ℕ) (p : placeOf w b n < w) (l : d < b .districts) (on : computingOn n (recordAt b d) ≡ true) where
+  abbrev q : ℕ
+  q = placeOf w b n
+
+  abbrev o : Open
+  o = openOf w b n
+
+  abbrev r : Record
+  r = recordAt b d
+
+  abbrev c : Book
+  c = readied w b n d
+
+  few : (e : ℕ) → e < b .districts → e < mostDistricts
+  few e h = omega (arith, s .fewDistricts)
+
+  busy : idle r ≡ false
+  busy = ap (λ (m : ℕ). eqb m 0) (computing-on n r on .0)
+
+  number : r .transaction .0 ≡ n
+  number = computing-on n r on .1
+
+  -- the district as it was
+  was : DistrictRow w d q o r
+  was = rw number at (s .districts d l)
+
+  records : (e : ℕ) → recordAt c e ≡ cond (eqb e d) (readyRecord r) (recordAt b e)
+  unfolding readied
+  records e = getD-set (b .records) d (readyRecord r) noRecord e (omega (arith, few d l, t .records))
+
+  opens : (m : ℕ) → openAt c m ≡ cond (eqb m q) (reported d o) (openAt b m)
+  unfolding readied
+  opens m = getD-set (b .«open») q (reported d o) noOpen m (omega (arith, t .places))
+
+  -- the row of the transaction
+  old : OpenRow (b .districts) (b .last .0) o
+  old = s .opens q p (place-open w b n p)
+
+  row : OpenRow (b .districts) (b .last .0) (reported d o)
+  row = record {
+    touched = old .touched;
+    ready = including-lt (b .districts) (o .ready) d (s .fewDistricts) (old .ready) l;
+    gave = old .gave;
+    decisions = old .decisions;
+    given = old .given;
+    apart = λ e h k.
+        by-cases (eqb e d)
+        (λ m. rw (eqb-true e d m) (was .computingNotGave (computing-on n r on .0)))
+        (λ m. old .apart e h (sym (including-other (o .ready) d e (few e h) m) ∙ k));
+    readyTouched = λ e h k.
+        by-cases (eqb e d)
+        (λ m. rw (eqb-true e d m) (was .busyTouched busy))
+        (λ m. old .readyTouched e h (sym (including-other (o .ready) d e (few e h) m) ∙ k));
+    gaveTouched = old .gaveTouched;
+    completedReady = λ v e h k.
+        by-cases (eqb e d)
+        (λ m. rw (eqb-true e d m) (including-own (o .ready) d (few d l)))
+        (λ m. including-other (o .ready) d e (few e h) m ∙ old .completedReady v e h k);
+  }
+
+  -- ---- districts
+
+  own : DistrictRow w d q (reported d o) (readyRecord r)
+  own = record {
+    phases = omega arith;
+    idleNone = λ k. absurd (false≢true k);
+    busyOpen = λ k. p;
+    busyTouched = λ k. was .busyTouched busy;
+    waitingReady = λ k. including-own (o .ready) d (few d l);
+    computingNotReady = λ k. absurd (omega arith);
+    computingNotGave = λ k. absurd (omega arith);
+  }
+
+  seen : (e m : ℕ) → e < b .districts → eqb e d ≡ false → Seen e (openAt b m) (openAt c m)
+  seen e m h k =
+      by-cases (eqb m q)
+      (λ z. rw (opens m, z, eqb-true m q z) (record { touched = refl; ready = including-other (o .ready) d e (few e h) k; gave = refl }))
+      (λ z. seen-same e (openAt b m) (openAt c m) (opens m ∙ rw z))
+
+  districts : (e : ℕ) → e < b .districts → DistrictRow w e (placeOf w b (recordAt c e .transaction .0)) (openAt c (placeOf w b (recordAt c e .transaction .0))) (recordAt c e)
+  districts e h =
+      by-cases (eqb e d)
+      (λ k. rw (records e, k, eqb-true e d k, number, opens q, eq-eqb q q refl) own)
+      (λ k. rw (records e, k) (district-stays w e _ _ _ _ (recordAt b e) (s .districts e h) (λ z. refl) (λ z. seen e _ h k)))
+
+  -- ---- items
+
+  itemsOn : (x : Item) → itemOn c x ≡ itemOn b x
+  unfolding itemOn recordOn
+  itemsOn x =
+      by-cases (eqb (x .district) d)
+      (λ k. rw (records (x .district), k, eqb-true (x .district) d k, busy))
+      (λ k. rw (records (x .district), k))
+
+  pub ready-but : SoundBut w (readied w b n d)
+  unfolding readied
+  ready-but =
+      change-but w b s _ (b .items) _ q (reported d o) (record {
+        place = p;
+        wasOpen = place-open w b n p;
+        number = refl;
+        opens = opens;
+        row = row;
+        districts = districts;
+        items = λ i h. item-stays w (b .districts) _ _ _ _ (itemAt b i) (s .items i h) (itemsOn (itemAt b i)) (λ z. ap (placeOf w b) (itemsOn (itemAt b i)));
+        pastDistricts = λ e h k. records e ∙ rw (ne-eqb e d (λ z. omega arith)) (s .pastDistricts e h k);
+        pastItems = s .pastItems;
+        freeUnused = s .freeUnused;
+      })

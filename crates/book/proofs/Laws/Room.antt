@@ -1,0 +1,90 @@
+-- "Deciding, hearing and giving up never lack room." (document 01, Answer numbers) A decision changes no polyvalue. Reducing adds no value. The split of give up has at
+-- most the different values that held and pending have together, and a sound book has room for those.
+use mathlib.Core.Path.{_≡_}
+use mathlib.Core.Bool.{Bool, true, or-true}
+use mathlib.Core.List.{List, [], _∷_, _++_}
+use Prim.Native.Nat.{ℕ, _+_, _≤_, _<_}
+use native.Mathlib.Omega.{arith}
+use lib.IntN.{ℤ}
+use lib.ListN.{length}
+use Rattle.conditions.specs.Places.{withPlace}
+use Rattle.conditions.proofs.Laws.Below.{by-cases}
+use Rattle.conditions.proofs.Laws.Places.{place-lt}
+use Rattle.polyvalues.specs.declared.polyvalue.Pair.{Pair}
+use Rattle.polyvalues.specs.Values.{equal}
+use Rattle.polyvalues.specs.Pairs.{applies, at, hits}
+use Rattle.polyvalues.specs.Polyvalues.{room, Complete, WellFormed, inUse}
+use Rattle.polyvalues.specs.Operations.{reduce, select, occurs, together}
+use Rattle.polyvalues.proofs.Laws.Values.{equal-refl}
+use Rattle.polyvalues.proofs.Laws.Canon.{each-over, over-full}
+use Rattle.polyvalues.proofs.Laws.Operations.{reduce-canon, reduce-count}
+use Rattle.polyvalues.proofs.Laws.Packed.{sound-well-formed}
+use Rattle.polyvalues.proofs.Laws.Room.{occurs-append, each-occurs, different-le, different-rising, select-count}
+use Rattle.book.specs.declared.Book.{Book}
+use Rattle.book.specs.Book.{itemAt}
+use Rattle.book.specs.Sound.{Sound}
+
+-- ---- values that occur
+
+occurs-first : (u : ℤ) (ps qs : List Pair) → occurs u ps ≡ true → occurs u (ps ++ qs) ≡ true
+occurs-first u ps qs e = rw (occurs-append u ps qs, e)
+
+occurs-second : (u : ℤ) (ps qs : List Pair) → occurs u qs ≡ true → occurs u (ps ++ qs) ≡ true
+occurs-second u ps qs e = rw (occurs-append u ps qs, e) (or-true (occurs u ps))
+
+-- two lists have a value together where one of them has it
+occurs-either : (u : ℤ) (ps qs rs : List Pair) → (occurs u ps ≡ true → occurs u rs ≡ true) → (occurs u qs ≡ true → occurs u rs ≡ true) → occurs u (ps ++ qs) ≡ true → occurs u rs ≡ true
+occurs-either u ps qs rs f g e = by-cases (occurs u ps) f (λ n. g (rw (occurs-append u ps qs, n) at e))
+
+-- the value under an assignment is one of the values
+occurs-at : (ps : List Pair) (a : ℕ) → hits ps a ≡ 1 → occurs (at ps a) ps ≡ true
+occurs-at [] a e = absurd (omega arith)
+occurs-at (p ∷ ps) a e =
+    by-cases (applies p a)
+    (λ t. rw (t, equal-refl (p .value)))
+    (λ t. let one : 0 + hits ps a ≡ 1 = rw t at e in rw (t, occurs-at ps a (omega arith)) (or-true (equal (at ps a) (p .value))))
+
+-- reducing adds no value
+occurs-reduce : (w q : ℕ) (o : Bool) (ps : List Pair) → Complete w ps → (u : ℤ) → occurs u (reduce w q o ps) ≡ true → occurs u ps ≡ true
+occurs-reduce w q o ps c u e =
+    each-occurs (λ v. occurs v ps) (reduce w q o ps)
+    (rw (reduce-canon w q o ps c, ← (over-full w (λ a. at ps (withPlace w a q o))))
+    (each-over w (λ a. at ps (withPlace w a q o)) _ (λ v. occurs v ps) (λ a h. occurs-at ps (withPlace w a q o) (c .once (withPlace w a q o) (place-lt w a q o)))))
+    u e
+
+-- ---- how many there are together
+
+pub together-swap : (ps qs : List Pair) → together qs ps ≤ together ps qs
+unfolding together
+together-swap ps qs = different-le (qs ++ ps) (ps ++ qs) (λ u. occurs-either u qs ps (ps ++ qs) (occurs-second u ps qs) (occurs-first u ps qs))
+
+-- a list together with itself
+pub together-self : (w : ℕ) (ps : List Pair) → WellFormed w ps → together ps ps ≤ room
+unfolding together
+together-self w ps f =
+    omega (arith, f .few, different-rising ps (f .complete .simple .rising), different-le (ps ++ ps) ps (λ u. occurs-either u ps ps ps (λ e. e) (λ e. e)))
+
+pub together-reduce : (w q : ℕ) (o : Bool) (ps qs : List Pair) → Complete w ps → Complete w qs → together (reduce w q o ps) (reduce w q o qs) ≤ together ps qs
+unfolding together
+together-reduce w q o ps qs c d =
+    different-le (reduce w q o ps ++ reduce w q o qs) (ps ++ qs)
+    (λ u. occurs-either u (reduce w q o ps) (reduce w q o qs) (ps ++ qs)
+    (λ e. occurs-first u ps qs (occurs-reduce w q o ps c u e))
+    (λ e. occurs-second u ps qs (occurs-reduce w q o qs d u e)))
+
+-- ---- a sound book
+
+module _ (w : ℕ) (b : Book) (s : Sound w b) (i : ℕ) (h : i < b .count) where
+  split-together : together (inUse (itemAt b i .pending)) (inUse (itemAt b i .held)) ≤ room
+  split-together = omega (arith, s .fewTogether i h, together-swap (inUse (itemAt b i .held)) (inUse (itemAt b i .pending)))
+
+  -- giving up has room for the pending value where the transaction at q completes and the held value where it aborts
+  pub give-up-room : (q : ℕ) → length (select w q (inUse (itemAt b i .pending)) (inUse (itemAt b i .held))) ≤ room
+  give-up-room q = omega (arith, split-together, select-count w q (inUse (itemAt b i .pending)) (inUse (itemAt b i .held)))
+
+  -- hearing has room for the reduced values
+  pub hear-room : (q : ℕ) (o : Bool) → (length (reduce w q o (inUse (itemAt b i .held))) ≤ room) × (length (reduce w q o (inUse (itemAt b i .pending))) ≤ room)
+  hear-room q o = (
+    omega (arith, sound-well-formed w (itemAt b i .held) (s .held i h) .few, reduce-count w q o (inUse (itemAt b i .held))),
+    omega (arith, sound-well-formed w (itemAt b i .pending) (s .pending i h) .few, reduce-count w q o (inUse (itemAt b i .pending))),
+  )

@@ -1,0 +1,71 @@
+-- The first n rows changed, row by row: what a loop has done before row n, and what each row is afterwards.
+use mathlib.Core.Path.{_≡_, refl, sym, _∙_, ap, ap₂}
+use mathlib.Core.List.{List, [], _∷_}
+use Prim.Native.Nat.{ℕ, zero, suc, _+_, _≤_, _<_}
+use native.Mathlib.Omega.{arith}
+use lib.ListN.{length, getD, set}
+use Rattle.book.specs.Rows.{rowsFrom, rows}
+
+module _ {A : Type 0} (f : ℕ → A → A) (z : A) where
+  shift : (k i : ℕ) (x : A) → f (suc k + i) x ≡ f (k + suc i) x
+  shift k i x = let e : suc k + i ≡ k + suc i = omega arith in ap (λ (m : ℕ). f m x) e
+
+  start : (k : ℕ) (x : A) → f k x ≡ f (k + 0) x
+  start k x = let e : k ≡ k + 0 = omega arith in ap (λ (m : ℕ). f m x) e
+
+  length-from : (k n : ℕ) (xs : List A) → length (rowsFrom k f n xs) ≡ length xs
+  unfolding rowsFrom
+  length-from k zero xs = refl
+  length-from k (suc n) [] = refl
+  length-from k (suc n) (x ∷ xs) = ap suc (length-from (suc k) n xs)
+
+  getD-from : (k n : ℕ) (xs : List A) (i : ℕ) → i < n → i < length xs → getD (rowsFrom k f n xs) i z ≡ f (k + i) (getD xs i z)
+  unfolding rowsFrom
+  getD-from k zero xs i h l = absurd (omega arith)
+  getD-from k (suc n) [] i h l = absurd (omega arith)
+  getD-from k (suc n) (x ∷ xs) zero h l = start k x
+  getD-from k (suc n) (x ∷ xs) (suc i) h l = getD-from (suc k) n xs i (omega arith) (omega arith) ∙ shift k i (getD xs i z)
+
+  past-from : (k n : ℕ) (xs : List A) (i : ℕ) → n ≤ i → getD (rowsFrom k f n xs) i z ≡ getD xs i z
+  unfolding rowsFrom
+  past-from k zero xs i h = refl
+  past-from k (suc n) [] i h = refl
+  past-from k (suc n) (x ∷ xs) zero h = absurd (omega arith)
+  past-from k (suc n) (x ∷ xs) (suc i) h = past-from (suc k) n xs i (omega arith)
+
+  set-from : (k n : ℕ) (xs : List A) → n < length xs → set (rowsFrom k f n xs) n (f (k + n) (getD xs n z)) ≡ rowsFrom k f (suc n) xs
+  unfolding rowsFrom
+  set-from k n [] h = absurd (omega arith)
+  set-from k zero (x ∷ xs) h = ap (λ (y : A). y ∷ xs) (sym (start k x))
+  set-from k (suc n) (x ∷ xs) h =
+      ap (λ (y : A). f k x ∷ set (rowsFrom (suc k) f n xs) n y) (sym (shift k n (getD xs n z)))
+      ∙ ap (λ (l : List A). f k x ∷ l) (set-from (suc k) n xs (omega arith))
+
+  same-from : (k n : ℕ) (xs : List A) → ((i : ℕ) → i < n → i < length xs → f (k + i) (getD xs i z) ≡ getD xs i z) → rowsFrom k f n xs ≡ xs
+  unfolding rowsFrom
+  same-from k zero xs e = refl
+  same-from k (suc n) [] e = refl
+  same-from k (suc n) (x ∷ xs) e =
+      ap₂ _∷_ (start k x ∙ e 0 (omega arith) (omega arith)) (same-from (suc k) n xs (λ i h l. shift k i (getD xs i z) ∙ e (suc i) (omega arith) (omega arith)))
+
+  here : (i : ℕ) (x : A) → f (0 + i) x ≡ f i x
+  here i x = let e : 0 + i ≡ i = omega arith in ap (λ (m : ℕ). f m x) e
+
+  pub length-rows : (n : ℕ) (xs : List A) → length (rows f n xs) ≡ length xs
+  length-rows n xs = length-from 0 n xs
+
+  -- a row below n
+  pub getD-rows : (n : ℕ) (xs : List A) (i : ℕ) → i < n → i < length xs → getD (rows f n xs) i z ≡ f i (getD xs i z)
+  getD-rows n xs i h l = getD-from 0 n xs i h l ∙ here i (getD xs i z)
+
+  -- a row from n on
+  pub past-rows : (n : ℕ) (xs : List A) (i : ℕ) → n ≤ i → getD (rows f n xs) i z ≡ getD xs i z
+  past-rows n xs i h = past-from 0 n xs i h
+
+  -- one turn of a loop
+  pub set-rows : (n : ℕ) (xs : List A) → n < length xs → set (rows f n xs) n (f n (getD xs n z)) ≡ rows f (suc n) xs
+  set-rows n xs h = ap (λ (y : A). set (rows f n xs) n y) (sym (here n (getD xs n z))) ∙ set-from 0 n xs h
+
+  -- a change that changes nothing
+  pub rows-same : (n : ℕ) (xs : List A) → ((i : ℕ) → i < n → f i (getD xs i z) ≡ getD xs i z) → rows f n xs ≡ xs
+  rows-same n xs e = same-from 0 n xs (λ i h l. here i (getD xs i z) ∙ e i h)

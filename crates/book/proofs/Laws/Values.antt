@@ -1,0 +1,183 @@
+-- For each event, every item's held and pending value under every assignment after it. Forgetting changes no item.
+use mathlib.Core.Path.{_≡_, refl, _∙_, ap}
+use mathlib.Core.Bool.{Bool, true, false, cond}
+use mathlib.Core.List.{List}
+use Prim.Native.Nat.{ℕ, _^_, _<_}
+use native.Mathlib.Omega.{arith}
+use lib.IntN.{ℤ}
+use lib.ListN.{length}
+use Rattle.conditions.specs.Sets.{member}
+use Rattle.conditions.specs.Places.{withPlace}
+use Rattle.conditions.proofs.Laws.Below.{by-cases}
+use Rattle.polyvalues.specs.declared.polyvalue.Pair.{Pair}
+use Rattle.polyvalues.specs.declared.polyvalue.Polyvalue.{Polyvalue}
+use Rattle.polyvalues.specs.Pairs.{at}
+use Rattle.polyvalues.specs.Polyvalues.{Complete, inUse, packed}
+use Rattle.polyvalues.specs.Operations.{reduce, select}
+use Rattle.polyvalues.proofs.Laws.Canon.{at-canon}
+use Rattle.polyvalues.proofs.Laws.Operations.{reduce-canon, select-canon}
+use Rattle.polyvalues.proofs.Laws.Packed.{inUse-packed, sound-well-formed}
+use Rattle.book.specs.declared.Item.{Item}
+use Rattle.book.specs.declared.Step.{Step}
+use Rattle.book.specs.declared.Book.{Book}
+use Rattle.book.specs.Book.{voidItem, recordAt, itemAt, placeOf}
+use Rattle.book.specs.Programs.{run, touches}
+use Rattle.book.specs.Records.{computingOn}
+use Rattle.book.specs.Items.{there, concerned, install, drop, split, reduceItem}
+use Rattle.book.specs.Forget.{forget}
+use Rattle.book.specs.Transactions.{openOf}
+use Rattle.book.specs.Begin.{heldAt, results, beginItem, begun}
+use Rattle.book.specs.Ready.{readied}
+use Rattle.book.specs.GiveUp.{giveUpItem, gaveUp}
+use Rattle.book.specs.Decide.{decide}
+use Rattle.book.specs.Hear.{outcome, hearItem, heard}
+use Rattle.book.specs.Sound.{Sound}
+use Rattle.book.proofs.Laws.Rows.{getD-rows}
+use Rattle.book.proofs.Laws.Shaped.{Shaped}
+
+-- the value of a polyvalue under an assignment
+abbrev pub valueAt : Polyvalue → ℕ → ℤ
+valueAt v a = at (inUse v) a
+
+-- ---- one polyvalue
+
+packed-at : (ps : List Pair) (a : ℕ) → valueAt (packed ps) a ≡ at ps a
+packed-at ps a = ap (λ (qs : List Pair). at qs a) (inUse-packed ps)
+
+reduce-at : (w q : ℕ) (o : Bool) (ps : List Pair) → Complete w ps → (a : ℕ) → a < 2 ^ w → valueAt (packed (reduce w q o ps)) a ≡ at ps (withPlace w a q o)
+reduce-at w q o ps c a h =
+    packed-at (reduce w q o ps) a ∙ ap (λ (qs : List Pair). at qs a) (reduce-canon w q o ps c) ∙ at-canon w (λ a. at ps (withPlace w a q o)) a h
+
+select-at : (w q : ℕ) (done gone : List Pair) → Complete w done → Complete w gone → (a : ℕ) → a < 2 ^ w
+    → valueAt (packed (select w q done gone)) a ≡ cond (member a q) (at done a) (at gone a)
+select-at w q done gone c d a h =
+    packed-at (select w q done gone) a ∙ ap (λ (qs : List Pair). at qs a) (select-canon w q done gone c d)
+    ∙ at-canon w (λ a. cond (member a q) (at done a) (at gone a)) a h
+
+-- ---- the events
+
+-- forgetting changes no item
+pub forget-item : (w : ℕ) (b : Book) (i : ℕ) → itemAt (forget w b) i ≡ itemAt b i
+unfolding forget
+forget-item w b i = refl
+
+-- nor does ready
+pub ready-item : (w : ℕ) (b : Book) (n d i : ℕ) → itemAt (readied w b n d) i ≡ itemAt b i
+unfolding readied
+ready-item w b n d i = refl
+
+-- nor a decision
+pub decide-item : (w : ℕ) (b : Book) (n v i : ℕ) → itemAt (decide w b n v) i ≡ itemAt b i
+unfolding decide
+decide-item w b n v i = refl
+
+module _ (w : ℕ) (b : Book) (s : Sound w b) (t : Shaped w b) where
+  -- the items below the count are rows of the table
+  inside : (i : ℕ) → i < b .count → i < length (b .items)
+  inside i h = omega (arith, s .fewItems, t .items)
+
+  pub held-complete : (i : ℕ) → i < b .count → Complete w (inUse (itemAt b i .held))
+  held-complete i h = sound-well-formed w (itemAt b i .held) (s .held i h) .complete
+
+  pub pending-complete : (i : ℕ) → i < b .count → Complete w (inUse (itemAt b i .pending))
+  pending-complete i h = sound-well-formed w (itemAt b i .pending) (s .pending i h) .complete
+
+  -- ---- begin
+
+  pub begin-item : (xs : List Step) (i : ℕ) → i < b .count → itemAt (begun w b xs) i ≡ beginItem w b xs i (itemAt b i)
+  unfolding begun
+  begin-item xs i h = getD-rows (beginItem w b xs) voidItem (b .count) (b .items) i h (inside i h)
+
+  pub begin-held : (xs : List Step) (i : ℕ) → i < b .count → itemAt (begun w b xs) i .held ≡ itemAt b i .held
+  unfolding beginItem
+  begin-held xs i h = ap (λ (x : Item). x .held) (begin-item xs i h) ∙ by-cases (touches xs i) (λ e. rw e) (λ e. rw e)
+
+  -- "The results are the touched items' pending polyvalues."
+  pub begin-pending : (xs : List Step) (i : ℕ) → i < b .count → (a : ℕ) → a < 2 ^ w
+      → valueAt (itemAt (begun w b xs) i .pending) a ≡ cond (touches xs i) (run xs (heldAt b a) i) (valueAt (itemAt b i .pending) a)
+  unfolding beginItem results
+  begin-pending xs i h a l =
+      ap (λ (x : Item). valueAt (x .pending) a) (begin-item xs i h)
+      ∙ by-cases (touches xs i)
+      (λ e. rw e (packed-at (results w b xs i) a ∙ at-canon w (λ a. run xs (heldAt b a) i) a l))
+      (λ e. rw e)
+
+  -- ---- give up
+
+  pub give-up-item : (n d i : ℕ) → i < b .count → itemAt (gaveUp w b n d) i ≡ giveUpItem w b n d (placeOf w b n) (computingOn n (recordAt b d)) (itemAt b i)
+  unfolding gaveUp
+  give-up-item n d i h = getD-rows (λ i x. giveUpItem w b n d (placeOf w b n) (computingOn n (recordAt b d)) x) voidItem (b .count) (b .items) i h (inside i h)
+
+  split-at : (q i : ℕ) → i < b .count → (a : ℕ) → a < 2 ^ w → valueAt (split w q (itemAt b i) .held) a ≡ cond (member a q) (valueAt (itemAt b i .pending) a) (valueAt (itemAt b i .held) a)
+  unfolding split
+  split-at q i h a l = select-at w q (inUse (itemAt b i .pending)) (inUse (itemAt b i .held)) (pending-complete i h) (held-complete i h) a l
+
+  -- "From computing: pending becomes held .. From waiting: each item becomes its pending value where the transaction completes and its held value where it aborts"
+  pub give-up-held : (n d i : ℕ) → i < b .count → (a : ℕ) → a < 2 ^ w
+      → valueAt (itemAt (gaveUp w b n d) i .held) a
+      ≡ cond (concerned b n d (itemAt b i))
+      (cond (computingOn n (recordAt b d)) (valueAt (itemAt b i .held) a) (cond (member a (placeOf w b n)) (valueAt (itemAt b i .pending) a) (valueAt (itemAt b i .held) a)))
+      (valueAt (itemAt b i .held) a)
+  unfolding giveUpItem
+  give-up-held n d i h a l =
+      ap (λ (x : Item). valueAt (x .held) a) (give-up-item n d i h)
+      ∙ by-cases (concerned b n d (itemAt b i))
+      (λ e. rw e (by-cases (computingOn n (recordAt b d)) (λ f. rw f) (λ f. rw f (split-at (placeOf w b n) i h a l))))
+      (λ e. rw e)
+
+  -- a district that gave up is idle: its items' pending values are the held ones
+  pub give-up-pending : (n d i : ℕ) → i < b .count
+      → itemAt (gaveUp w b n d) i .pending ≡ cond (concerned b n d (itemAt b i)) (itemAt (gaveUp w b n d) i .held) (itemAt b i .pending)
+  unfolding giveUpItem split
+  give-up-pending n d i h =
+      rw (give-up-item n d i h)
+      (by-cases (concerned b n d (itemAt b i))
+      (λ e. rw e (by-cases (computingOn n (recordAt b d)) (λ f. rw f) (λ f. rw f)))
+      (λ e. rw e))
+
+  -- ---- hear
+
+  pub hear-item : (n d i : ℕ) → i < b .count → itemAt (heard w b n d) i ≡ hearItem w b n d (placeOf w b n) (outcome (openOf w b n)) (itemAt b i)
+  unfolding heard
+  hear-item n d i h = getD-rows (λ i x. hearItem w b n d (placeOf w b n) (outcome (openOf w b n)) x) voidItem (b .count) (b .items) i h (inside i h)
+
+  -- "If it is busy on that transaction it installs pending (completed) or drops it (aborted) .. Then every held and pending polyvalue there is reduced"
+  pub hear-held : (n d i : ℕ) → i < b .count → (a : ℕ) → a < 2 ^ w
+      → valueAt (itemAt (heard w b n d) i .held) a
+      ≡ cond (there d (itemAt b i))
+      (cond (concerned b n d (itemAt b i))
+      (cond (outcome (openOf w b n)) (valueAt (itemAt b i .pending) (withPlace w a (placeOf w b n) (outcome (openOf w b n))))
+      (valueAt (itemAt b i .held) (withPlace w a (placeOf w b n) (outcome (openOf w b n)))))
+      (valueAt (itemAt b i .held) (withPlace w a (placeOf w b n) (outcome (openOf w b n)))))
+      (valueAt (itemAt b i .held) a)
+  unfolding hearItem reduceItem
+  hear-held n d i h a l =
+      ap (λ (x : Item). valueAt (x .held) a) (hear-item n d i h)
+      ∙ by-cases (there d (itemAt b i)) (λ e. rw e (go (concerned b n d (itemAt b i)) (outcome (openOf w b n)))) (λ e. rw e)
+    where
+      go : (c o : Bool) → valueAt (reduceItem w (placeOf w b n) o (cond c (cond o (install (itemAt b i)) (drop (itemAt b i))) (itemAt b i)) .held) a
+          ≡ cond c (cond o (valueAt (itemAt b i .pending) (withPlace w a (placeOf w b n) o)) (valueAt (itemAt b i .held) (withPlace w a (placeOf w b n) o)))
+          (valueAt (itemAt b i .held) (withPlace w a (placeOf w b n) o))
+      go true true = reduce-at w (placeOf w b n) true (inUse (itemAt b i .pending)) (pending-complete i h) a l
+      go true false = reduce-at w (placeOf w b n) false (inUse (itemAt b i .held)) (held-complete i h) a l
+      go false o = reduce-at w (placeOf w b n) o (inUse (itemAt b i .held)) (held-complete i h) a l
+
+  pub hear-pending : (n d i : ℕ) → i < b .count → (a : ℕ) → a < 2 ^ w
+      → valueAt (itemAt (heard w b n d) i .pending) a
+      ≡ cond (there d (itemAt b i))
+      (cond (concerned b n d (itemAt b i))
+      (cond (outcome (openOf w b n)) (valueAt (itemAt b i .pending) (withPlace w a (placeOf w b n) (outcome (openOf w b n))))
+      (valueAt (itemAt b i .held) (withPlace w a (placeOf w b n) (outcome (openOf w b n)))))
+      (valueAt (itemAt b i .pending) (withPlace w a (placeOf w b n) (outcome (openOf w b n)))))
+      (valueAt (itemAt b i .pending) a)
+  unfolding hearItem reduceItem
+  hear-pending n d i h a l =
+      ap (λ (x : Item). valueAt (x .pending) a) (hear-item n d i h)
+      ∙ by-cases (there d (itemAt b i)) (λ e. rw e (go (concerned b n d (itemAt b i)) (outcome (openOf w b n)))) (λ e. rw e)
+    where
+      go : (c o : Bool) → valueAt (reduceItem w (placeOf w b n) o (cond c (cond o (install (itemAt b i)) (drop (itemAt b i))) (itemAt b i)) .pending) a
+          ≡ cond c (cond o (valueAt (itemAt b i .pending) (withPlace w a (placeOf w b n) o)) (valueAt (itemAt b i .held) (withPlace w a (placeOf w b n) o)))
+          (valueAt (itemAt b i .pending) (withPlace w a (placeOf w b n) o))
+      go true true = reduce-at w (placeOf w b n) true (inUse (itemAt b i .pending)) (pending-complete i h) a l
+      go true false = reduce-at w (placeOf w b n) false (inUse (itemAt b i .held)) (held-complete i h) a l
+      go false o = reduce-at w (placeOf w b n) o (inUse (itemAt b i .pending)) (pending-complete i h) a l

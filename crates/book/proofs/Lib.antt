@@ -1,0 +1,7 @@
+pub mod Laws
+mod Lent
+mod States
+mod Naming
+mod Reading
+mod Running
+mod Testing

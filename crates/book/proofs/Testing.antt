@@ -1,0 +1,66 @@
+-- The tests of soundness, as the code makes them.
+use mathlib.Core.Path.{_≡_, refl, sym, ap, ap₂, _∙_}
+use mathlib.Core.Bool.{Bool, true, false, not, _&&_, cond}
+use mathlib.Core.List.{List}
+use Prim.Native.Nat.{ℕ, _<_}
+use native.Mathlib.Omega.{arith}
+use borrow.Author.Tests.{le-leb}
+use lib.Dec.{leb}
+use lib.ListN.{getD}
+use lib.Seq.{take-all}
+use Rattle.polyvalues.specs.declared.polyvalue.Polyvalue.{Polyvalue}
+use Rattle.polyvalues.specs.Polyvalues.{room, inUse}
+use Rattle.polyvalues.specs.Operations.{same}
+use Rattle.polyvalues.proofs.Known.{Held, pairs-long}
+use Rattle.conditions.specs.Below.{first}
+use Rattle.conditions.specs.Places.{places}
+use Rattle.book.specs.declared.Record.{Record}
+use Rattle.book.specs.declared.Item.{Item}
+use Rattle.book.specs.declared.Open.{Open}
+use Rattle.book.specs.declared.Book.{Book}
+use Rattle.book.specs.Book.{lastNumber, noRecord, noOpen, recordOn, itemOn, named, placeOf}
+use Rattle.book.specs.SoundTest.{implies, soundPending}
+
+-- ---- all rows
+
+-- a polyvalue with all its rows in use
+abbrev pub whole : Polyvalue → Polyvalue
+whole q = record { count = room; pairs = q .pairs }
+
+pub whole-same : {q r : Polyvalue} → Held q → Held r → same (inUse (whole q)) (inUse (whole r)) ≡ same (q .pairs) (r .pairs)
+unfolding inUse
+whole-same {q} {r} h l = ap₂ same (take-all room (q .pairs) (omega (arith, pairs-long h))) (take-all room (r .pairs) (omega (arith, pairs-long l)))
+
+-- ---- the place of a transaction
+
+pub place-in : (b : Book) (n : ℕ) {os : List Open} {q : ℕ} → b .«open» ≡ os → q ≡ first places (λ q. named n (getD os q noOpen)) → q ≡ placeOf places b n
+unfolding placeOf
+place-in b n e f = f ∙ ap (λ (l : List Open). first places (λ q. named n (getD l q noOpen))) (sym e)
+
+-- ---- what the sets say of a district: touched t, ready r, given up g, completed x
+
+pub at-cases : (t r g x : Bool) → (implies r (not g && t) && implies g t && implies (x && t) r) ≡ cond t (cond r (not g) (not x)) (cond r false (not g))
+at-cases true true true x = refl
+at-cases true true false true = refl
+at-cases true true false false = refl
+at-cases true false true true = refl
+at-cases true false true false = refl
+at-cases true false false true = refl
+at-cases true false false false = refl
+at-cases false true true x = refl
+at-cases false true false x = refl
+at-cases false false true x = refl
+at-cases false false false true = refl
+at-cases false false false false = refl
+
+-- ---- the pending polyvalue of an item, beside the transaction that it is on
+
+pub pending-in : (b : Book) (x : Item) {rs : List Record} {n : ℕ} {r : Bool} → b .records ≡ rs → n ≡ recordOn (getD rs (x .district) noRecord)
+    → r ≡ soundPending places b n x → soundPending places b (itemOn b x) x ≡ r
+unfolding itemOn
+pending-in b x e f g = sym (g ∙ ap (λ (n : ℕ). soundPending places b n x) (f ∙ ap (λ (l : List Record). recordOn (getD l (x .district) noRecord)) (sym e)))
+
+-- ---- every number that fits is one that may be given
+
+pub number-last : {n : ℕ} → n < 65536 → leb n lastNumber ≡ true
+number-last {n} h = le-leb n lastNumber (omega arith)

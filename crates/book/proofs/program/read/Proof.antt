@@ -1,0 +1,69 @@
+-- The loop's invariant: the first i steps are read.
+use mathlib.Core.Path.{_≡_, refl, sym, ap, _∙_}
+use Prim.Native.Nat.{_≤_, _<_, _-_}
+use native.Mathlib.Numerals.{add-one}
+use native.Mathlib.Omega.{arith}
+use lib.ListN.{length, set}
+use mathlib.Core.List.{List}
+use borrow.Author.Needs.{needs}
+use Rattle.book.specs.declared.Step.{Step}
+use Rattle.book.specs.Programs.{steps}
+use Rattle.book.proofs.Laws.Steps.{length-steps}
+use Rattle.book.proofs.Reading.{readUpto, read-more, read-all}
+use Rattle.book.proofs.program.read.Statement.{statement}
+use Rattle.book.proofs.program.read.Tie as tie
+
+abbrev Inv-loop : tie.InvT-loop
+Inv-loop bytes n rows₀ i₀ rows i = (i ≤ n) × (rows ≡ readUpto i (steps bytes))
+
+abbrev μ-loop : tie.MeasureT-loop
+μ-loop bytes n rows₀ i₀ rows i = n - i
+
+loop-holds : tie.Need-loop-holds Inv-loop μ-loop
+loop-holds c = (omega arith, refl)
+
+step-at-requires : tie.Need-step-at-requires Inv-loop μ-loop
+step-at-requires c κs = omega (arith, length-steps (c .before .before .before .args .bytes .now))
+
+mul-steps : tie.Need-mul-steps Inv-loop μ-loop
+mul-steps c = record { fits = omega (arith, c .before .before .before .before .pre, length-steps (c .before .before .before .before .args .bytes .now)) }
+
+array-set-from-steps : tie.Need-array-set-from-steps Inv-loop μ-loop
+array-set-from-steps c = omega (arith, c .before .before .before .before .pre, length-steps (c .before .before .before .before .args .bytes .now))
+
+add-i : tie.Need-add-i Inv-loop μ-loop
+add-i c = search needs
+
+loop-less : tie.Need-loop-less Inv-loop μ-loop
+loop-less c = omega arith
+
+loop-again : tie.Need-loop-again Inv-loop μ-loop
+loop-again c =
+    let at-loop = c .before .before .loop in
+    let xs = steps (c .before .before .before .before .args .bytes .now) in
+    let h : at-loop .i < length xs = omega (arith, length-steps (c .before .before .before .before .args .bytes .now)) in (
+      omega arith,
+      ap (λ (l : List Step). set l (at-loop .i) (c .step-at .result)) (at-loop .inv .1) ∙ ap (set (readUpto (at-loop .i) xs) (at-loop .i)) (c .step-at .ensures) ∙ rw add-one (read-more xs (at-loop .i) h (c .before .before .before .before .pre)),
+    )
+
+returns : tie.Need-returns Inv-loop μ-loop
+returns c =
+    let at-loop = c .before .loop in
+    let bytes = c .before .before .before .args .bytes .now in
+    let count = length-steps bytes in
+    read-all (steps bytes) (at-loop .i) _ (omega arith) (sym count) (at-loop .inv .1)
+
+pub read-spec : {M : Type 1} → statement M
+read-spec =
+    tie.close
+    (tie.spec
+    Inv-loop
+    μ-loop
+    loop-holds
+    step-at-requires
+    mul-steps
+    array-set-from-steps
+    add-i
+    loop-less
+    loop-again
+    returns)

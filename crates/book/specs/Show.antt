@@ -1,0 +1,36 @@
+-- "Show one item's held pairs." (document 01, Events) "The line that show writes into its buffer runs from the count of pairs on, without a line end" (The sheet and the program)
+use mathlib.Core.Bool.{not, cond}
+use mathlib.Core.List.{List, [], _∷_}
+use Prim.Native.Nat.{ℕ}
+use lib.Dec.{ltb}
+use Rattle.conditions.specs.Written.{room, written}
+use Rattle.polyvalues.specs.Text.{lineText}
+use Rattle.polyvalues.specs.Polyvalues.{inUse}
+use Rattle.book.specs.declared.Answer.{Answer}
+use Rattle.book.specs.declared.Answer.the-variants.{NoItem, Unsound, ShortBuffer}
+use Rattle.book.specs.declared.Book.{Book}
+use Rattle.book.specs.Answers.{accepted, firstOf}
+use Rattle.book.specs.Book.{itemAt, openAt}
+use Rattle.book.specs.Transactions.{unsound}
+
+-- "Tags print .. as T and the transaction number": the number of the transaction at place q
+abbrev pub tagNumber : Book → ℕ → ℕ
+tagNumber b q = openAt b q .number .0
+
+-- the line: the count of the item's held pairs, and each pair
+unfoldable pub heldLine : ℕ → Book → ℕ → List ℕ
+heldLine w b i = lineText w (tagNumber b) (inUse (itemAt b i .held))
+
+-- 15, then "Show: 2, 16": "text buffer shorter than the line"
+unfoldable pub showAnswer : ℕ → Book → ℕ → List ℕ → Answer
+showAnswer w b i buf =
+    firstOf (
+    (unsound w b, Unsound)
+    ∷ (not (ltb i (b .count)), NoItem)
+    ∷ (not (room buf 0 (heldLine w b i)), ShortBuffer)
+    ∷ []
+    )
+
+-- the buffer afterwards: "An accepted write changes only the bytes written, from the buffer's start." A refused one leaves it as it was.
+unfoldable pub shown : ℕ → Book → ℕ → List ℕ → List ℕ
+shown w b i buf = let new : List ℕ = written buf 0 (heldLine w b i) in cond (accepted (showAnswer w b i buf)) new buf

@@ -1,0 +1,89 @@
+// The book: districts, items and open transactions.
+mod program;
+mod records;
+mod sound;
+mod tables;
+
+use conditions::PLACES;
+use conditions::TransactionNumber;
+use polyvalues::Polyvalue;
+
+// A district's record: idle (0), computing (1) or waiting (2), and on which transaction.
+pub struct Record {
+    pub phase: u8,
+    pub transaction: TransactionNumber,
+}
+
+// An item of a district.
+pub struct Item {
+    pub district: u8,
+    pub held: Polyvalue,
+    pub pending: Polyvalue,
+}
+
+// An open transaction at its place: sets of districts, and a decision (0 none, 1 completed, 2 aborted).
+// A free place is all zeros.
+pub struct Open {
+    pub number: TransactionNumber,
+    pub touched: u8,
+    pub ready: u8,
+    pub gave: u8,
+    pub decision: u8,
+}
+
+// The first `districts` records and the first `count` items count; the rows past them are zero.
+pub struct Book {
+    pub last: TransactionNumber,
+    pub districts: usize,
+    pub records: [Record; 8],
+    pub count: usize,
+    pub items: [Item; 32],
+    pub open: [Open; PLACES],
+}
+
+// A step of a program: 4 bytes.
+pub struct Step {
+    pub kind: u8,
+    pub item: u8,
+    pub operand: i16,
+}
+
+// An item of a book that is to be opened.
+pub struct Opening {
+    pub district: u8,
+    pub value: i16,
+}
+
+pub enum Answer {
+    Accepted,
+    NoDistrict,
+    NoItem,
+    BadProgram,
+    NotOpen,
+    NotIdle,
+    AllOpen,
+    NumbersGiven,
+    TooManyValues,
+    NotOnIt,
+    AlreadyDecided,
+    NotReady,
+    NotDecided,
+    Malformed,
+    TooLong,
+    Unsound,
+    ShortBuffer,
+}
+
+// What begin answers.
+pub struct Begun {
+    pub answer: Answer,
+    pub number: TransactionNumber,
+    pub grant: u8,
+    pub book: Book,
+}
+
+// What the other events on a transaction answer.
+pub struct Done {
+    pub answer: Answer,
+    pub book: Book,
+}

@@ -1,0 +1,425 @@
+// Whether a book that is handed in is sound: the paragraph of document 01, row by row.
+ghost use mathlib.Core.Path.{_≡_};
+ghost use mathlib.Core.Bool.{not, cond};
+ghost use Prim.Native.Nat.{ℕ, _<_, _≤_, _^_};
+ghost use lib.Dec.{eqb, ltb};
+ghost use lib.ListN.{getD};
+ghost use Rattle.conditions.specs.Below.{all};
+ghost use Rattle.conditions.specs.Sets.{member};
+ghost use Rattle.conditions.specs.Places.{places as Places·places};
+ghost use Rattle.book.specs.declared.Book.{Book};
+ghost use Rattle.book.specs.Book.{mostDistricts, mostItems, noItem, noOpen};
+ghost use Rattle.book.specs.Forget.{decided, needed};
+ghost use Rattle.book.specs.SoundTest.{
+  implies,
+  samePolyvalue,
+  sameItem,
+  zeroRecord,
+  zeroOpen,
+  soundBusy,
+  soundRecord,
+  soundDistrict,
+  soundPending,
+  soundRow,
+  soundItem,
+  soundAt,
+  soundOpen,
+  soundPlace,
+  sound,
+};
+use crate::Book;
+use crate::Item;
+use crate::Open;
+use crate::Record;
+use crate::tables::DISTRICTS;
+use crate::tables::ITEMS;
+use crate::tables::district_on;
+use crate::tables::item_depends;
+use crate::tables::place_of;
+use crate::tables::some_depends;
+use crate::tables::some_on;
+use conditions::Condition;
+use conditions::PLACES;
+use conditions::Place;
+use conditions::TransactionNumber;
+use polyvalues::PAIRS;
+use polyvalues::Pair;
+use polyvalues::Polyvalue;
+
+// Whether the district is in a set of districts.
+fn has(set: u8, d: usize) -> bool
+    ensures { λ r. ⌜ r ≡ member set d ⌝ }
+{
+    if DISTRICTS <= d {
+        return false;
+    }
+    (set >> d) & 1 == 1
+}
+
+// Whether a set of districts has only those below the count.
+fn is_within(set: u8, districts: usize) -> bool
+    requires { ⌜ districts ≤ mostDistricts ⌝ }
+    ensures { λ r. ⌜ r ≡ ltb set (2 ^ districts) ⌝ }
+{
+    (set as u16) < (1u16 << districts)
+}
+
+// Whether a record holds zeros.
+fn zero_record(x: Record) -> bool
+    ensures { λ r. ⌜ r ≡ zeroRecord x ⌝ }
+{
+    if x.phase != 0 {
+        return false;
+    }
+    x.transaction.0 == 0
+}
+
+// Whether a place does.
+fn zero_open(o: Open) -> bool
+    ensures { λ r. ⌜ r ≡ zeroOpen o ⌝ }
+{
+    if o.number.0 != 0 {
+        return false;
+    }
+    if o.touched != 0 {
+        return false;
+    }
+    if o.ready != 0 {
+        return false;
+    }
+    if o.gave != 0 {
+        return false;
+    }
+    o.decision == 0
+}
+
+// The item that holds zeros.
+fn no_item() -> Item
+    ensures { λ r. ⌜ r ≡ noItem ⌝ }
+{
+    let blank = Pair {
+        value: 0,
+        condition: Condition::EMPTY,
+    };
+    let nothing = Polyvalue {
+        count: 0,
+        pairs: [blank; PAIRS],
+    };
+    Item {
+        district: 0,
+        held: nothing,
+        pending: nothing,
+    }
+}
+
+// Whether two polyvalues are the same, rows past the count too.
+fn same_polyvalue(q: Polyvalue, other: Polyvalue) -> bool
+    ensures { λ r. ⌜ r ≡ samePolyvalue q other ⌝ }
+{
+    if q.count != other.count {
+        return false;
+    }
+    let mut rows = q;
+    rows.count = PAIRS;
+    let mut others = other;
+    others.count = PAIRS;
+    rows.same(others)
+}
+
+// Whether two items are.
+fn same_item(x: Item, y: Item) -> bool
+    ensures { λ r. ⌜ r ≡ sameItem x y ⌝ }
+{
+    if x.district != y.district {
+        return false;
+    }
+    if !same_polyvalue(x.held, y.held) {
+        return false;
+    }
+    same_polyvalue(x.pending, y.pending)
+}
+
+// Whether the open transaction touches the busy district: a waiting one is ready, a computing one in
+// neither set.
+fn sound_busy(d: usize, o: Open, is_waiting: bool) -> bool
+    ensures { λ r. ⌜ ((q : ℕ) → q < Places·places → r ≡ soundBusy Places·places d q o «is_waiting») ⌝ }
+{
+    if !has(o.touched, d) {
+        return false;
+    }
+    if is_waiting {
+        return has(o.ready, d);
+    }
+    if has(o.ready, d) {
+        return false;
+    }
+    !has(o.gave, d)
+}
+
+// Whether the record of a district below the count is sound.
+fn sound_record(places: [Open; PLACES], d: usize, x: Record) -> bool
+    ensures { λ r. ⌜ ((b : Book) → b .«open» ≡ places → r ≡ soundRecord Places·places b d x) ⌝ }
+{
+    if 2 < x.phase {
+        return false;
+    }
+    if x.phase == 0 {
+        return x.transaction.0 == 0;
+    }
+    let n = x.transaction;
+    let q = place_of(places, n);
+    if PLACES <= q {
+        return false;
+    }
+    let o = places[q];
+    sound_busy(d, o, x.phase == 2)
+}
+
+// Whether a row of the districts is sound.
+fn sound_district(places: [Open; PLACES], districts: usize, d: usize, x: Record) -> bool
+    ensures { λ r. ⌜ ((b : Book) → b .«open» ≡ places → r ≡ cond (ltb d districts) (soundRecord Places·places b d x) (zeroRecord x)) ⌝ }
+{
+    if d < districts {
+        return sound_record(places, d, x);
+    }
+    zero_record(x)
+}
+
+// Whether each of them is.
+fn sound_districts(b: Book) -> bool
+    ensures { λ r. ⌜ r ≡ all mostDistricts (soundDistrict Places·places b) ⌝ }
+{
+    let places = b.open;
+    let mut d: usize = 0;
+    while d < DISTRICTS {
+        let x = b.records[d];
+        if !sound_district(places, b.districts, d, x) {
+            return false;
+        }
+        d += 1;
+    }
+    true
+}
+
+// Whether pending equals held, where the item is on no transaction (0), or neither depends on its
+// own, number n.
+fn sound_pending(places: [Open; PLACES], n: u16, x: Item) -> bool
+    ensures { λ r. ⌜ ((b : Book) → b .«open» ≡ places → r ≡ soundPending Places·places b n x) ⌝ }
+{
+    if n == 0 {
+        return same_polyvalue(x.pending, x.held);
+    }
+    let q = place_of(places, TransactionNumber(n));
+    !item_depends(x, Place(q))
+}
+
+// Whether an item below the count is sound.
+fn sound_row(
+    records: [Record; DISTRICTS],
+    places: [Open; PLACES],
+    districts: usize,
+    x: Item,
+) -> bool
+    ensures { λ r. ⌜ ((b : Book) → b .records ≡ records → b .«open» ≡ places → b .districts ≡ districts → r ≡ soundRow Places·places b x) ⌝ }
+{
+    let district = x.district;
+    if districts <= district as usize {
+        return false;
+    }
+    if !x.held.is_sound() {
+        return false;
+    }
+    if !x.pending.is_sound() {
+        return false;
+    }
+    let n = district_on(records, district);
+    if !sound_pending(places, n, x) {
+        return false;
+    }
+    x.held.together(x.pending) <= PAIRS
+}
+
+// Whether a row of the items is sound, below the count or past it.
+fn sound_item(
+    records: [Record; DISTRICTS],
+    places: [Open; PLACES],
+    districts: usize,
+    used: bool,
+    x: Item,
+) -> bool
+    ensures { λ r. ⌜ ((b : Book) → b .records ≡ records → b .«open» ≡ places → b .districts ≡ districts → r ≡ cond used (soundRow Places·places b x) (sameItem x noItem)) ⌝ }
+{
+    if used {
+        return sound_row(records, places, districts, x);
+    }
+    same_item(x, no_item())
+}
+
+// Whether each of them is.
+fn sound_items(b: Book) -> bool
+    ensures { λ r. ⌜ r ≡ all mostItems (soundItem Places·places b) ⌝ }
+{
+    let records = b.records;
+    let places = b.open;
+    let mut i: usize = 0;
+    while i < ITEMS {
+        let x = b.items[i];
+        if !sound_item(records, places, b.districts, i < b.count, x) {
+            return false;
+        }
+        i += 1;
+    }
+    true
+}
+
+// Whether ready and gave-up are apart and within touched, and a completed transaction has the
+// district ready where it touches it.
+fn sound_at(o: Open, d: usize) -> bool
+    ensures { λ r. ⌜ r ≡ soundAt o d ⌝ }
+{
+    let ready = has(o.ready, d);
+    let gave = has(o.gave, d);
+    if !has(o.touched, d) {
+        if ready {
+            return false;
+        }
+        return !gave;
+    }
+    if ready {
+        return !gave;
+    }
+    o.decision != 1
+}
+
+// Whether that holds of each district.
+fn sound_sets(o: Open, districts: usize) -> bool
+    ensures { λ r. ⌜ r ≡ all districts (soundAt o) ⌝ }
+{
+    let mut d: usize = 0;
+    while d < districts {
+        if !sound_at(o, d) {
+            return false;
+        }
+        d += 1;
+    }
+    true
+}
+
+// Whether no place before q has the number.
+fn number_differs(places: [Open; PLACES], q: usize, n: TransactionNumber) -> bool
+    requires { ⌜ q ≤ Places·places ⌝ }
+    ensures { λ r. ⌜ r ≡ all q (λ p. not (eqb (getD places p noOpen .number .0) (n .0))) ⌝ }
+{
+    let mut p: usize = 0;
+    while p < q {
+        let o = places[p];
+        if o.number.0 == n.0 {
+            return false;
+        }
+        p += 1;
+    }
+    true
+}
+
+// Whether the transaction is not decided, or has a district on it or a polyvalue that depends on it.
+fn sound_decided(b: Book, q: Place, o: Open) -> bool
+    requires { ⌜ (b .districts ≤ mostDistricts) × (b .count ≤ mostItems) ⌝ }
+    ensures { λ r. ⌜ r ≡ implies (decided o) (needed Places·places b (q .0) o) ⌝ }
+{
+    if o.decision == 0 {
+        return true;
+    }
+    let records = b.records;
+    if some_on(records, b.districts, o.number.0) {
+        return true;
+    }
+    some_depends(b, q)
+}
+
+// Whether the open transaction at a place is sound.
+fn sound_open(b: Book, q: usize, o: Open) -> bool
+    requires { ⌜ (b .districts ≤ mostDistricts) × (b .count ≤ mostItems) × (q ≤ Places·places) ⌝ }
+    ensures { λ r. ⌜ r ≡ soundOpen Places·places b q o ⌝ }
+{
+    let districts = b.districts;
+    if !is_within(o.touched, districts) {
+        return false;
+    }
+    if !is_within(o.ready, districts) {
+        return false;
+    }
+    if !is_within(o.gave, districts) {
+        return false;
+    }
+    if 2 < o.decision {
+        return false;
+    }
+    let places = b.open;
+    if !number_differs(places, q, o.number) {
+        return false;
+    }
+    if b.last.0 < o.number.0 {
+        return false;
+    }
+    if !sound_decided(b, Place(q), o) {
+        return false;
+    }
+    sound_sets(o, districts)
+}
+
+// Whether a place is sound.
+fn sound_place(b: Book, q: usize) -> bool
+    requires { ⌜ (b .districts ≤ mostDistricts) × (b .count ≤ mostItems) × (q < Places·places) ⌝ }
+    ensures { λ r. ⌜ r ≡ soundPlace Places·places b q ⌝ }
+{
+    let o = b.open[q];
+    if o.number.0 != 0 {
+        return sound_open(b, q, o);
+    }
+    if !zero_open(o) {
+        return false;
+    }
+    !some_depends(b, Place(q))
+}
+
+// Whether each of them is.
+fn sound_places(b: Book) -> bool
+    requires { ⌜ (b .districts ≤ mostDistricts) × (b .count ≤ mostItems) ⌝ }
+    ensures { λ r. ⌜ r ≡ all Places·places (soundPlace Places·places b) ⌝ }
+{
+    let mut q: usize = 0;
+    while q < PLACES {
+        if !sound_place(b, q) {
+            return false;
+        }
+        q += 1;
+    }
+    true
+}
+
+impl Book {
+    // Whether the book is sound: the counts, then every row.
+    pub fn is_sound(self) -> bool
+        ensures { λ r. ⌜ r ≡ sound Places·places self ⌝ }
+    {
+        if self.districts < 1 {
+            return false;
+        }
+        if DISTRICTS < self.districts {
+            return false;
+        }
+        if self.count < 1 {
+            return false;
+        }
+        if ITEMS < self.count {
+            return false;
+        }
+        if !sound_districts(self) {
+            return false;
+        }
+        if !sound_items(self) {
+            return false;
+        }
+        sound_places(self)
+    }
+}
