@@ -5,3 +5,7 @@ mod Naming
 mod Reading
 mod Running
 mod Testing
+mod Known
+mod Loops
+mod Districts
+mod Doing

@@ -1,6 +1,16 @@
-// The book: districts, items and open transactions.
+// The book: districts, items and open transactions, and the events on them.
+//
+// Every public function is proved to return what its definition in `specs/` says, for every argument:
+// any book may be handed in. No public function has a `requires`, and nothing is assumed.
+mod decide;
+mod forget;
+mod give_up;
+mod hear;
+mod items;
 mod program;
+mod ready;
 mod records;
+mod sets;
 mod sound;
 mod tables;
 

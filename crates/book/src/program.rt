@@ -10,6 +10,7 @@ ghost use Rattle.book.specs.Programs.{steps, numbered, takes, names, tou
 ghost use Rattle.book.specs.Begin.{mostSteps, someStep, badLength, badStep, badProgram, inTable, outside};
 ghost use Rattle.book.specs.States.{noStep, stepsOf, programOf, stateOf, rowsOf, added, stepped, ran};
 use crate::Step;
+use crate::tables::ITEMS;
 use polyvalues::Added;
 use polyvalues::below;
 use polyvalues::in_range;
@@ -18,9 +19,6 @@ use polyvalues::sum;
 
 // How many steps a program may have.
 const STEPS: usize = 8;
-
-// How many items a book may have.
-const ITEMS: usize = 32;
 
 const NEED: u8 = 1;
 

@@ -31,6 +31,7 @@ use crate::Book;
 use crate::Item;
 use crate::Open;
 use crate::Record;
+use crate::sets::has;
 use crate::tables::DISTRICTS;
 use crate::tables::ITEMS;
 use crate::tables::district_on;
@@ -45,16 +46,6 @@ use conditions::TransactionNumber;
 use polyvalues::PAIRS;
 use polyvalues::Pair;
 use polyvalues::Polyvalue;
-
-// Whether the district is in a set of districts.
-fn has(set: u8, d: usize) -> bool
-    ensures { λ r. ⌜ r ≡ member set d ⌝ }
-{
-    if DISTRICTS <= d {
-        return false;
-    }
-    (set >> d) & 1 == 1
-}
 
 // Whether a set of districts has only those below the count.
 fn is_within(set: u8, districts: usize) -> bool

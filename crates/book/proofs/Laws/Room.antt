@@ -75,7 +75,8 @@ together-reduce w q o ps qs c d =
 -- ---- a sound book
 
 module _ (w : ℕ) (b : Book) (s : Sound w b) (i : ℕ) (h : i < b .count) where
-  split-together : together (inUse (itemAt b i .pending)) (inUse (itemAt b i .held)) ≤ room
+  -- giving up: pending and held are few together
+  pub split-together : together (inUse (itemAt b i .pending)) (inUse (itemAt b i .held)) ≤ room
   split-together = omega (arith, s .fewTogether i h, together-swap (inUse (itemAt b i .held)) (inUse (itemAt b i .pending)))
 
   -- giving up has room for the pending value where the transaction at q completes and the held value where it aborts

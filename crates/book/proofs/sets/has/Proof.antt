@@ -3,8 +3,8 @@ use borrow.Author.Needs.{needs}
 use mathlib.Core.Path.{sym}
 use Rattle.book.specs.Book.{mostDistricts}
 use Rattle.conditions.proofs.Laws.Sets.{member-past, member-test}
-use Rattle.book.proofs.sound.has.Statement.{statement}
-use Rattle.book.proofs.sound.has.Tie as tie
+use Rattle.book.proofs.sets.has.Statement.{statement}
+use Rattle.book.proofs.sets.has.Tie as tie
 
 returns : tie.Need-returns
 returns c = sym (member-past mostDistricts _ _ (search needs) (search needs))

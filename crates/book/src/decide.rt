@@ -1,0 +1,142 @@
+// Complete and abort: the decision of a transaction.
+ghost use mathlib.Core.Path.{_≡_};
+ghost use mathlib.Core.Bool.{not, _&&_};
+ghost use Prim.Native.Nat.{ℕ, _<_, _≤_};
+ghost use Rattle.conditions.specs.Below.{any};
+ghost use Rattle.conditions.specs.Sets.{member};
+ghost use Rattle.conditions.specs.Places.{places};
+ghost use Rattle.book.specs.Book.{mostDistricts, placeOf};
+ghost use Rattle.book.specs.Decide.{decide, complete, abort};
+ghost use Rattle.book.specs.SoundTest.{sound};
+use crate::Answer;
+use crate::Book;
+use crate::Done;
+use crate::Open;
+use crate::forget::forget;
+use crate::sets::has;
+use crate::tables::place_of;
+use conditions::PLACES;
+use conditions::TransactionNumber;
+
+// Whether the district is touched and has not reported ready.
+fn is_awaited(o: Open, d: usize) -> bool
+    ensures { λ r. ⌜ r ≡ (member (o .touched) d && not (member (o .ready) d)) ⌝ }
+{
+    if !has(o.touched, d) {
+        return false;
+    }
+    !has(o.ready, d)
+}
+
+// Whether a district is.
+fn some_awaited(o: Open, districts: usize) -> bool
+    requires { ⌜ districts ≤ mostDistricts ⌝ }
+    ensures { λ r. ⌜ r ≡ any districts (λ d. member (o .touched) d && not (member (o .ready) d)) ⌝ }
+{
+    let mut d: usize = 0;
+    while d < districts {
+        if is_awaited(o, d) {
+            return true;
+        }
+        d += 1;
+    }
+    false
+}
+
+// The transaction at the place has the decision.
+fn decided(b: Book, q: usize, decision: u8) -> Book
+    requires { ⌜ q < places ⌝ }
+    ensures { λ r. ⌜ ((n : ℕ) → q ≡ placeOf places b n → r ≡ decide places b n decision) ⌝ }
+{
+    let mut o = b.open[q];
+    o.decision = decision;
+    let mut after = b;
+    after.open[q] = o;
+    after
+}
+
+// Complete, where it is known whether the book is sound.
+fn complete_checked(b: Book, n: TransactionNumber, is_sound: bool) -> Done
+    requires { ⌜ «is_sound» ≡ sound places b ⌝ }
+    ensures { λ r. ⌜ r ≡ complete places b (n .0) ⌝ }
+{
+    if !is_sound {
+        return Done {
+            answer: Answer::Unsound,
+            book: b,
+        };
+    }
+    let q = place_of(b.open, n);
+    if PLACES <= q {
+        return Done {
+            answer: Answer::NotOpen,
+            book: b,
+        };
+    }
+    let o = b.open[q];
+    if o.decision != 0 {
+        return Done {
+            answer: Answer::AlreadyDecided,
+            book: b,
+        };
+    }
+    if some_awaited(o, b.districts) {
+        return Done {
+            answer: Answer::NotReady,
+            book: b,
+        };
+    }
+    let after = decided(b, q, 1);
+    Done {
+        answer: Answer::Accepted,
+        book: forget(after),
+    }
+}
+
+// Abort, where it is known whether the book is sound.
+fn abort_checked(b: Book, n: TransactionNumber, is_sound: bool) -> Done
+    requires { ⌜ «is_sound» ≡ sound places b ⌝ }
+    ensures { λ r. ⌜ r ≡ abort places b (n .0) ⌝ }
+{
+    if !is_sound {
+        return Done {
+            answer: Answer::Unsound,
+            book: b,
+        };
+    }
+    let q = place_of(b.open, n);
+    if PLACES <= q {
+        return Done {
+            answer: Answer::NotOpen,
+            book: b,
+        };
+    }
+    let o = b.open[q];
+    if o.decision != 0 {
+        return Done {
+            answer: Answer::AlreadyDecided,
+            book: b,
+        };
+    }
+    let after = decided(b, q, 2);
+    Done {
+        answer: Answer::Accepted,
+        book: forget(after),
+    }
+}
+
+impl Book {
+    // The call that completes.
+    pub fn complete(self, n: TransactionNumber) -> Done
+        ensures { λ r. ⌜ r ≡ complete places self (n .0) ⌝ }
+    {
+        complete_checked(self, n, self.is_sound())
+    }
+
+    // The call that aborts.
+    pub fn abort(self, n: TransactionNumber) -> Done
+        ensures { λ r. ⌜ r ≡ abort places self (n .0) ⌝ }
+    {
+        abort_checked(self, n, self.is_sound())
+    }
+}

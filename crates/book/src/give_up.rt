@@ -1,0 +1,125 @@
+// Give up: a busy district waits no longer.
+ghost use mathlib.Core.Path.{_≡_};
+ghost use mathlib.Core.Bool.{true};
+ghost use Prim.Native.Nat.{_<_};
+ghost use Rattle.conditions.specs.Places.{places};
+ghost use Rattle.book.specs.Rows.{rows};
+ghost use Rattle.book.specs.Book.{mostDistricts, recordAt, placeOf};
+ghost use Rattle.book.specs.Records.{computingOn};
+ghost use Rattle.book.specs.GiveUp.{giveUpItem, marked, gaveUp, giveUp};
+ghost use Rattle.book.specs.SoundTest.{sound};
+use crate::Answer;
+use crate::Book;
+use crate::Done;
+use crate::Item;
+use crate::Open;
+use crate::forget::forget;
+use crate::items::given_up;
+use crate::records::busy_on;
+use crate::records::computing_on;
+use crate::records::rested;
+use crate::sets::including;
+use crate::tables::ITEMS;
+use crate::tables::place_of;
+use conditions::PLACES;
+use conditions::Place;
+use conditions::TransactionNumber;
+
+// Each item, when the district gives up.
+fn given_up_items(b: Book, n: TransactionNumber, d: u8, q: Place, computing: bool) -> [Item; ITEMS]
+    requires { ⌜ sound places b ≡ true ⌝ }
+    ensures { λ r. ⌜ r ≡ rows (λ i x. giveUpItem places b (n .0) d (q .0) computing x) (b .count) (b .items) ⌝ }
+{
+    let records = b.records;
+    let count = b.count;
+    let mut items = b.items;
+    let mut i: usize = 0;
+    while i < count {
+        let x = items[i];
+        let y = given_up(x, records, n, d, q, computing);
+        items[i] = y;
+        i += 1;
+    }
+    items
+}
+
+// The transaction on which the district gave up before it was ready.
+fn marked(o: Open, d: usize) -> Open
+    requires { ⌜ d < mostDistricts ⌝ }
+    ensures { λ r. ⌜ r ≡ marked d o ⌝ }
+{
+    let set = including(o.gave, d);
+    let mut p = o;
+    p.gave = set;
+    p
+}
+
+// The district is idle, its items are given up, and from computing the transaction is marked.
+fn gave_up(b: Book, n: TransactionNumber, d: u8, q: usize, computing: bool) -> Book
+    requires { ⌜ (sound places b ≡ true) × (d < mostDistricts) × (q < places) ⌝ }
+    requires { ⌜ (q ≡ placeOf places b (n .0)) × (computing ≡ computingOn (n .0) (recordAt b d)) ⌝ }
+    ensures { λ r. ⌜ r ≡ gaveUp places b (n .0) d ⌝ }
+{
+    let items = given_up_items(b, n, d, Place(q), computing);
+    let i = d as usize;
+    let r = b.records[i];
+    let idle = rested(r);
+    let mut after = b;
+    after.records[i] = idle;
+    after.items = items;
+    if !computing {
+        return after;
+    }
+    let o = b.open[q];
+    let known = marked(o, i);
+    after.open[q] = known;
+    after
+}
+
+// Give up, where it is known whether the book is sound.
+fn give_up_checked(b: Book, n: TransactionNumber, d: u8, is_sound: bool) -> Done
+    requires { ⌜ «is_sound» ≡ sound places b ⌝ }
+    ensures { λ r. ⌜ r ≡ giveUp places b (n .0) d ⌝ }
+{
+    if !is_sound {
+        return Done {
+            answer: Answer::Unsound,
+            book: b,
+        };
+    }
+    let q = place_of(b.open, n);
+    if PLACES <= q {
+        return Done {
+            answer: Answer::NotOpen,
+            book: b,
+        };
+    }
+    let i = d as usize;
+    if b.districts <= i {
+        return Done {
+            answer: Answer::NoDistrict,
+            book: b,
+        };
+    }
+    let r = b.records[i];
+    if !busy_on(r, n) {
+        return Done {
+            answer: Answer::NotOnIt,
+            book: b,
+        };
+    }
+    let after = gave_up(b, n, d, q, computing_on(r, n));
+    Done {
+        answer: Answer::Accepted,
+        book: forget(after),
+    }
+}
+
+impl Book {
+    // The call.
+    pub fn give_up(self, n: TransactionNumber, d: u8) -> Done
+        ensures { λ r. ⌜ r ≡ giveUp places self (n .0) d ⌝ }
+    {
+        give_up_checked(self, n, d, self.is_sound())
+    }
+}

@@ -1,0 +1,102 @@
+// Hear: a district learns the outcome of a transaction.
+ghost use mathlib.Core.Path.{_≡_};
+ghost use Prim.Native.Nat.{_<_, _≤_};
+ghost use Rattle.conditions.specs.Places.{places};
+ghost use Rattle.book.specs.Rows.{rows};
+ghost use Rattle.book.specs.Book.{mostDistricts, mostItems, placeOf};
+ghost use Rattle.book.specs.Transactions.{openOf};
+ghost use Rattle.book.specs.Hear.{outcome, hearItem, heard, hear};
+ghost use Rattle.book.specs.SoundTest.{sound};
+use crate::Answer;
+use crate::Book;
+use crate::Done;
+use crate::Item;
+use crate::forget::forget;
+use crate::items::heard as heard_item;
+use crate::records::heard as heard_record;
+use crate::tables::ITEMS;
+use crate::tables::place_of;
+use conditions::PLACES;
+use conditions::Place;
+use conditions::TransactionNumber;
+
+// Each item, when the district hears.
+fn heard_items(b: Book, n: TransactionNumber, d: u8, q: Place, completed: bool) -> [Item; ITEMS]
+    requires { ⌜ b .count ≤ mostItems ⌝ }
+    ensures { λ r. ⌜ r ≡ rows (λ i x. hearItem places b (n .0) d (q .0) completed x) (b .count) (b .items) ⌝ }
+{
+    let records = b.records;
+    let count = b.count;
+    let mut items = b.items;
+    let mut i: usize = 0;
+    while i < count {
+        let x = items[i];
+        let y = heard_item(x, records, n, d, q, completed);
+        items[i] = y;
+        i += 1;
+    }
+    items
+}
+
+// The district and its items have heard.
+fn heard(b: Book, n: TransactionNumber, d: u8, q: Place, completed: bool) -> Book
+    requires { ⌜ (b .count ≤ mostItems) × (d < mostDistricts) ⌝ }
+    requires { ⌜ (q .0 ≡ placeOf places b (n .0)) × (completed ≡ outcome (openOf places b (n .0))) ⌝ }
+    ensures { λ r. ⌜ r ≡ heard places b (n .0) d ⌝ }
+{
+    let items = heard_items(b, n, d, q, completed);
+    let i = d as usize;
+    let r = b.records[i];
+    let s = heard_record(r, n);
+    let mut after = b;
+    after.records[i] = s;
+    after.items = items;
+    after
+}
+
+// Hear, where it is known whether the book is sound.
+fn hear_checked(b: Book, n: TransactionNumber, d: u8, is_sound: bool) -> Done
+    requires { ⌜ «is_sound» ≡ sound places b ⌝ }
+    ensures { λ r. ⌜ r ≡ hear places b (n .0) d ⌝ }
+{
+    if !is_sound {
+        return Done {
+            answer: Answer::Unsound,
+            book: b,
+        };
+    }
+    let q = place_of(b.open, n);
+    if PLACES <= q {
+        return Done {
+            answer: Answer::NotOpen,
+            book: b,
+        };
+    }
+    if b.districts <= d as usize {
+        return Done {
+            answer: Answer::NoDistrict,
+            book: b,
+        };
+    }
+    let o = b.open[q];
+    if o.decision == 0 {
+        return Done {
+            answer: Answer::NotDecided,
+            book: b,
+        };
+    }
+    let after = heard(b, n, d, Place(q), o.decision == 1);
+    Done {
+        answer: Answer::Accepted,
+        book: forget(after),
+    }
+}
+
+impl Book {
+    // The call.
+    pub fn hear(self, n: TransactionNumber, d: u8) -> Done
+        ensures { λ r. ⌜ r ≡ hear places self (n .0) d ⌝ }
+    {
+        hear_checked(self, n, d, self.is_sound())
+    }
+}
