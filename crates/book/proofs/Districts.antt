@@ -7,6 +7,8 @@ use native.Mathlib.Omega.{arith}
 use lib.Dec.{eqb}
 use lib.Bits.{bitOr, or-lt}
 use lib.Pow.{shl-exact}
+use borrow.Author.Tests.{eq-eqb, ne-eqb, eqb-true, eqb-false}
+use Rattle.conditions.proofs.Laws.Below.{by-cases}
 use Rattle.conditions.specs.Sets.{member}
 use Rattle.conditions.specs.Places.{withPlace}
 use Rattle.conditions.proofs.Laws.Sets.{member-none, member-or}
@@ -29,3 +31,13 @@ including-is s d l h =
     member-or s (withPlace mostDistricts 0 d true) j
     ∙ ap (λ (x : Bool). member s j || x) (member-place mostDistricts 0 d true j k)
     ∙ either (member s j) (eqb j d) (member 0 j) (member-none j)))
+
+-- its districts
+pub member-including : (s d e : ℕ) → e < mostDistricts → member (including s d) e ≡ (member s e || eqb d e)
+member-including s d e h = member-place mostDistricts s d true e h ∙ by-cases (eqb d e) here other
+  where
+    here : eqb d e ≡ true → cond (eqb e d) true (member s e) ≡ (member s e || eqb d e)
+    here q = rw (q, eq-eqb e d (sym (eqb-true d e q))) (sym (or-true (member s e)))
+
+    other : eqb d e ≡ false → cond (eqb e d) true (member s e) ≡ (member s e || eqb d e)
+    other q = rw (q, ne-eqb e d (λ r. eqb-false d e q (sym r))) (sym (or-false (member s e)))

@@ -7,6 +7,7 @@ pub mod Steps
 pub mod Sound
 pub mod Forget
 pub mod Open
+pub mod Openings
 pub mod Examples
 pub mod Alternatives
 pub mod Shaped

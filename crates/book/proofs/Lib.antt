@@ -9,3 +9,7 @@ mod Known
 mod Loops
 mod Districts
 mod Doing
+mod Filling
+mod Making
+mod Showing
+mod Working

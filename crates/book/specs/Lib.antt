@@ -9,6 +9,7 @@ pub mod Records
 pub mod Items
 pub mod Transactions
 pub mod Open
+pub mod Openings
 pub mod Begin
 pub mod States
 pub mod Alternatives

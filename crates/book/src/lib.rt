@@ -2,21 +2,30 @@
 //
 // Every public function is proved to return what its definition in `specs/` says, for every argument:
 // any book may be handed in. No public function has a `requires`, and nothing is assumed.
+mod alternatives;
 mod decide;
 mod forget;
 mod give_up;
 mod hear;
 mod items;
+mod maker;
 mod program;
 mod ready;
 mod records;
 mod sets;
+mod show;
 mod sound;
 mod tables;
+mod touched;
 
 use conditions::PLACES;
 use conditions::TransactionNumber;
+pub use maker::Openings;
+pub use maker::opened;
+pub use maker::zero_book;
 use polyvalues::Polyvalue;
+pub use tables::DISTRICTS;
+pub use tables::ITEMS;
 
 // A district's record: idle (0), computing (1) or waiting (2), and on which transaction.
 pub struct Record {

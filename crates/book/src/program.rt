@@ -281,7 +281,7 @@ impl Program {
 
 impl State {
     // The item takes the value.
-    fn with(self, item: usize, value: Value) -> State
+    pub(crate) fn with(self, item: usize, value: Value) -> State
         requires { ⌜ item < mostItems ⌝ }
         ensures { λ r. ⌜ r ≡ rowsOf (takes (stateOf self) item (value .0)) ⌝ }
     {

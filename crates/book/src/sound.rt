@@ -31,6 +31,7 @@ use crate::Book;
 use crate::Item;
 use crate::Open;
 use crate::Record;
+use crate::maker::zero_item;
 use crate::sets::has;
 use crate::tables::DISTRICTS;
 use crate::tables::ITEMS;
@@ -39,12 +40,10 @@ use crate::tables::item_depends;
 use crate::tables::place_of;
 use crate::tables::some_depends;
 use crate::tables::some_on;
-use conditions::Condition;
 use conditions::PLACES;
 use conditions::Place;
 use conditions::TransactionNumber;
 use polyvalues::PAIRS;
-use polyvalues::Pair;
 use polyvalues::Polyvalue;
 
 // Whether a set of districts has only those below the count.
@@ -82,25 +81,6 @@ fn zero_open(o: Open) -> bool
         return false;
     }
     o.decision == 0
-}
-
-// The item that holds zeros.
-fn no_item() -> Item
-    ensures { λ r. ⌜ r ≡ noItem ⌝ }
-{
-    let blank = Pair {
-        value: 0,
-        condition: Condition::EMPTY,
-    };
-    let nothing = Polyvalue {
-        count: 0,
-        pairs: [blank; PAIRS],
-    };
-    Item {
-        district: 0,
-        held: nothing,
-        pending: nothing,
-    }
 }
 
 // Whether two polyvalues are the same, rows past the count too.
@@ -243,7 +223,7 @@ fn sound_item(
     if used {
         return sound_row(records, places, districts, x);
     }
-    same_item(x, no_item())
+    same_item(x, zero_item())
 }
 
 // Whether each of them is.

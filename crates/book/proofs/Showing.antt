@@ -1,0 +1,69 @@
+-- Show: the numbers of the transactions at the places, and what each answer says of the buffer.
+use mathlib.Core.Path.{_≡_, ap, _∙_, fun-ext}
+use mathlib.Core.Bool.{true, false, cond}
+use mathlib.Core.List.{List, map}
+use Prim.Native.Nat.{ℕ, _≤_, _<_}
+use native.Mathlib.Omega.{arith}
+use lib.ListN.{List·getD-map}
+use borrow.Author.Tests.{lt-ltb, le-ltb}
+use Rattle.conditions.specs.declared.place.TransactionNumber.{TransactionNumber}
+use Rattle.conditions.specs.declared.text.Written.the-variants.{To, NoRoom}
+use Rattle.conditions.specs.Places.{places}
+use Rattle.conditions.specs.Text.{numberAt}
+use Rattle.conditions.specs.Written.{room, answer, written}
+use Rattle.conditions.proofs.Laws.Below.{by-cases}
+use Rattle.polyvalues.specs.Text.{lineText}
+use Rattle.polyvalues.specs.Polyvalues.{inUse}
+use Rattle.book.specs.declared.Answer.{Answer}
+use Rattle.book.specs.declared.Answer.the-variants.{Accepted, NoItem, Unsound, ShortBuffer}
+use Rattle.book.specs.declared.Book.{Book}
+use Rattle.book.specs.declared.Open.{Open}
+use Rattle.book.specs.Answers.{firstOf}
+use Rattle.book.specs.Book.{noOpen, itemAt}
+use Rattle.book.specs.SoundTest.{sound}
+use Rattle.book.specs.Show.{tagNumber, heldLine, showAnswer, shown}
+
+-- ---- the line
+
+pub line-is : (b : Book) (i : ℕ) {numbers : List TransactionNumber} → numbers ≡ map (λ o. o .number) (b .«open»)
+    → lineText places (numberAt numbers) (inUse (itemAt b i .held)) ≡ heldLine places b i
+unfolding heldLine
+line-is b i e =
+    let tags : numberAt (map (λ (o : Open). o .number) (b .«open»)) ≡ tagNumber b =
+    fun-ext (λ q. ap (λ (n : TransactionNumber). n .0) (List·getD-map (λ (o : Open). o .number) (b .«open») q noOpen)) in
+    ap (λ (n : ℕ → ℕ). lineText places n (inUse (itemAt b i .held))) (ap numberAt e ∙ tags)
+
+-- it was written, or there was too little room
+pub was-written : (l t : List ℕ) {end : ℕ} → To end ≡ answer l 0 t → Accepted ≡ cond (room l 0 t) Accepted ShortBuffer
+unfolding answer
+was-written l t {end} e =
+    by-cases (room l 0 t) (λ k. rw k)
+    (λ k. let none : To end ≡ NoRoom = rw k at e in let z : _≡_ {A = ℕ} 0 1 = cc in absurd (omega arith))
+
+pub was-short : (l t : List ℕ) → NoRoom ≡ answer l 0 t → ShortBuffer ≡ cond (room l 0 t) Accepted ShortBuffer
+unfolding answer
+was-short l t e =
+    by-cases (room l 0 t)
+    (λ k. let some : NoRoom ≡ To _ = rw k at e in let z : _≡_ {A = ℕ} 0 1 = cc in absurd (omega arith))
+    (λ k. rw k)
+
+-- ---- the answers
+
+module _ (b : Book) (i : ℕ) (l : List ℕ) where
+  pub unsound-shown : sound places b ≡ false → (Unsound ≡ showAnswer places b i l) × (l ≡ shown places b i l)
+  unfolding showAnswer shown firstOf
+  unsound-shown s = (rw s, rw s)
+
+  module _ (s : sound places b ≡ true) where
+    pub none-shown : b .count ≤ i → (NoItem ≡ showAnswer places b i l) × (l ≡ shown places b i l)
+    unfolding showAnswer shown firstOf
+    none-shown h = let past = le-ltb i (b .count) h in (rw (s, past), rw (s, past))
+
+    pub item-shown : {r : Answer} {m : List ℕ} → i < b .count → r ≡ cond (room l 0 (heldLine places b i)) Accepted ShortBuffer → m ≡ written l 0 (heldLine places b i)
+        → (r ≡ showAnswer places b i l) × (m ≡ shown places b i l)
+    unfolding showAnswer shown firstOf written
+    item-shown h e f =
+        let there = lt-ltb i (b .count) h in
+        by-cases (room l 0 (heldLine places b i))
+        (λ k. (rw (s, there, k) (rw k at e), rw (s, there, k) (rw k at f)))
+        (λ k. (rw (s, there, k) (rw k at e), rw (s, there, k) (rw k at f)))
