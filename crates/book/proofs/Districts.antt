@@ -14,6 +14,7 @@ use Rattle.conditions.specs.Places.{withPlace}
 use Rattle.conditions.proofs.Laws.Sets.{member-none, member-or}
 use Rattle.conditions.proofs.Laws.Places.{place-lt, member-place, is-place, place-up}
 use Rattle.book.specs.Book.{mostDistricts, including}
+use Rattle.book.proofs.Laws.Including.{member-including}
 
 either : (x here none : Bool) → none ≡ false → (x || cond here true none) ≡ cond here true x
 either x true none e = or-true x
@@ -32,9 +33,9 @@ including-is s d l h =
     ∙ ap (λ (x : Bool). member s j || x) (member-place mostDistricts 0 d true j k)
     ∙ either (member s j) (eqb j d) (member 0 j) (member-none j)))
 
--- its districts
-pub member-including : (s d e : ℕ) → e < mostDistricts → member (including s d) e ≡ (member s e || eqb d e)
-member-including s d e h = member-place mostDistricts s d true e h ∙ by-cases (eqb d e) here other
+-- its districts are those of s, or d
+pub including-either : (s d e : ℕ) → e < mostDistricts → member (including s d) e ≡ (member s e || eqb d e)
+including-either s d e h = member-including s d e h ∙ by-cases (eqb d e) here other
   where
     here : eqb d e ≡ true → cond (eqb e d) true (member s e) ≡ (member s e || eqb d e)
     here q = rw (q, eq-eqb e d (sym (eqb-true d e q))) (sym (or-true (member s e)))

@@ -3,6 +3,7 @@ pub mod Answers
 pub mod Rows
 pub mod Same
 pub mod Programs
+pub mod Touched
 pub mod Steps
 pub mod Sound
 pub mod Forget

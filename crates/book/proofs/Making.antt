@@ -16,8 +16,8 @@ use Rattle.book.specs.declared.Item.{Item}
 use Rattle.book.specs.declared.Opening.{Opening}
 use Rattle.book.specs.declared.maker.Openings.{Openings}
 use Rattle.book.specs.Book.{mostItems, noItem, noBook}
-use Rattle.book.specs.Open.{goodItems, goodOpening, openedItem, openedBook, opened}
-use Rattle.book.specs.Openings.{openingsOf, goodItem, openedRows}
+use Rattle.book.specs.Open.{goodItem, goodItems, goodOpening, openedItem, openedBook, opened}
+use Rattle.book.specs.Openings.{openingsOf, openedRows}
 use Rattle.book.proofs.Laws.Openings.{rows-opened}
 use Rattle.book.proofs.Opening as TOpening
 use Rattle.book.proofs.maker.Openings as TOpenings

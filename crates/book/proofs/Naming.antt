@@ -1,5 +1,5 @@
 -- Operands as the machine keeps them, and the items that steps name.
-use mathlib.Core.Path.{_≡_, refl, sym, ap, ap₂}
+use mathlib.Core.Path.{_≡_, refl, ap, ap₂}
 use mathlib.Core.Bool.{Bool, true, false, not, _||_, true≢false}
 use mathlib.Core.List.{List, [], _∷_}
 use Prim.Native.Nat.{ℕ, zero, suc, _≤_, _<_}
@@ -11,12 +11,13 @@ use lib.Signed.{ltZ, mag, nonNeg}
 use mir.Facts.{toZ-ofZ, fits-natAbs}
 use mir.Syntax.{w16, w64}
 use mir.Val.{Fits, SFits, ofZ, toZ}
-use borrow.Author.Tests.{eq-eqb, ne-eqb, eqb-true, lt-ltb, ltb-true, not-false}
+use borrow.Author.Tests.{lt-ltb, ltb-true, not-false}
 use Rattle.conditions.proofs.Laws.Below.{or-left, or-right, by-cases}
 use Rattle.book.specs.declared.Step.{Step}
 use Rattle.book.specs.Programs.{isCopy, numbered, names, touches}
 use Rattle.book.specs.Begin.{someStep, inTable, outside}
 use Rattle.book.specs.States.{noStep}
+use Rattle.book.proofs.Laws.Touched.{item-below}
 
 -- ---- operands
 
@@ -47,34 +48,6 @@ not-below-zero (pos n) f e = (tt, fits-natAbs tt f)
 not-below-zero (negsuc n) f e = absurd (true≢false e)
 
 -- ---- items that a step names
-
-in-table-below : (count : ℕ) (z : ℤ) → inTable count z ≡ true → numbered z < count
-in-table-below count (pos n) e = ltb-true n count e
-in-table-below count (negsuc n) e = absurd (true≢false (sym e))
-
-module _ (count : ℕ) (x : Step) (inside : outside count x ≡ false) where
-  pub item-below : x .item < count
-  unfolding outside
-  item-below = ltb-true (x .item) count (not-false _ (or-left (not (ltb (x .item) count)) _ inside))
-
-  pub source-below : x .kind ≡ 4 → numbered (x .operand) < count
-  unfolding outside
-  source-below e =
-      in-table-below count (x .operand) (not-false _ (rw (eq-eqb (x .kind) 4 e) at (or-right (not (ltb (x .item) count)) _ inside)))
-
-  pub names-past : (i : ℕ) → count ≤ i → names x i ≡ false
-  unfolding names
-  names-past i h =
-      rw (ne-eqb (x .item) i (λ e. omega (arith, item-below))) (by-cases (isCopy x)
-      (λ e. rw (e, ne-eqb (numbered (x .operand)) i (λ q. omega (arith, source-below (eqb-true (x .kind) 4 e)))))
-      (λ e. rw e))
-
--- the items past the table are not touched
-pub touches-past : (count : ℕ) (xs : List Step) → someStep (outside count) xs ≡ false → (i : ℕ) → count ≤ i → touches xs i ≡ false
-unfolding touches
-touches-past count [] e i h = refl
-touches-past count (x ∷ xs) e i h =
-    rw (names-past count x (or-left (outside count x) _ e) i h) (touches-past count xs (or-right (outside count x) _ e) i h)
 
 in-table-more : (count more : ℕ) (z : ℤ) → count ≤ more → inTable count z ≡ true → inTable more z ≡ true
 in-table-more count more (pos n) h e = lt-ltb n more (omega (arith, ltb-true n count e))

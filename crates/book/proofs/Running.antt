@@ -1,13 +1,12 @@
 -- A step on a state, and a program run on one: what the code leaves is what the definition says, in rows.
 use mathlib.Core.Path.{_≡_, refl, sym, ap, _∙_}
-use mathlib.Core.Bool.{Bool, true, false, not, cond, true≢false}
+use mathlib.Core.Bool.{Bool, true, false, not, cond}
 use mathlib.Core.List.{List, _∷_}
 use Prim.Native.Nat.{ℕ, suc, _≤_, _<_}
 use native.Mathlib.Omega.{arith}
-use lib.Dec.{ltb}
 use lib.IntN.{ℤ, pos, _+ℤ_}
 use lib.ListN.{length, getD, drop, drop-of-length-le}
-use borrow.Author.Tests.{eq-eqb, ne-eqb, ltb-true, ltb-false}
+use borrow.Author.Tests.{eq-eqb, ne-eqb}
 use Rattle.conditions.proofs.Laws.Below.{by-cases}
 use Rattle.polyvalues.specs.declared.value.Added.the-variants.{Value, Declined}
 use Rattle.polyvalues.specs.Values.{inRange, below, sum, sumAs}
@@ -16,12 +15,12 @@ use Rattle.book.specs.declared.program.Program.{Program}
 use Rattle.book.specs.declared.program.State.{State}
 use Rattle.book.specs.declared.program.Stepped.{Stepped}
 use Rattle.book.specs.Book.{mostItems}
-use Rattle.book.specs.Programs.{numbered, takes, declines, after, afterAll, declinedFrom, declined, run, touches}
-use Rattle.book.specs.Begin.{someStep, outside}
+use Rattle.book.specs.Programs.{numbered, takes, declines, after, afterAll, declinedFrom, declined, run}
+use Rattle.book.specs.Begin.{outside}
 use Rattle.book.specs.States.{noStep, stepsOf, stateOf, rowsOf, added, stepped, ran}
-use Rattle.book.proofs.Laws.Programs.{after-other, declined-reads, run-reads, run-frame}
-use Rattle.book.proofs.States.{rows-long, rows-back, state-row, state-past, state-rows, rows-same}
-use Rattle.book.proofs.Naming.{names-past, touches-past}
+use Rattle.book.proofs.Laws.Programs.{after-other}
+use Rattle.book.proofs.States.{rows-long, rows-back, state-row, state-past, state-rows}
+use Rattle.book.proofs.Laws.Touched.{names-past}
 use Rattle.book.proofs.Reading.{steps-more}
 
 -- ---- a step on a state
@@ -160,23 +159,3 @@ run-ends p s t i h now-at =
 pub ran-value : (xs : List Step) (s : ℕ → ℤ) (i : ℕ) → i < mostItems → stateOf (ran xs s .state) i ≡ run xs s i
 unfolding ran
 ran-value xs s i h = state-row (run xs s) i h
-
--- it is the same on a state and on that state's rows
-pub ran-rows : (xs : List Step) (s : ℕ → ℤ) → someStep (outside mostItems) xs ≡ false → ran xs (stateOf (rowsOf s)) ≡ ran xs s
-unfolding ran
-ran-rows xs s inside =
-    let number = declined-reads xs (stateOf (rowsOf s)) s agree in
-    let rows = rows-same (run xs (stateOf (rowsOf s))) (run xs s) same in
-    λ k. record { declined = number k; state = rows k }
-  where
-    agree : (j : ℕ) → touches xs j ≡ true → stateOf (rowsOf s) j ≡ s j
-    agree j e =
-        by-cases (ltb j mostItems)
-        (λ t. state-row s j (ltb-true j mostItems t))
-        (λ t. absurd (true≢false (sym e ∙ touches-past mostItems xs inside j (ltb-false j mostItems t))))
-
-    same : (i : ℕ) → i < mostItems → run xs (stateOf (rowsOf s)) i ≡ run xs s i
-    same i h =
-        by-cases (touches xs i)
-        (λ t. run-reads xs (stateOf (rowsOf s)) s agree i t)
-        (λ t. run-frame xs (stateOf (rowsOf s)) i t ∙ state-row s i h ∙ sym (run-frame xs s i t))

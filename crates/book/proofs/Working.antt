@@ -45,7 +45,7 @@ use Rattle.book.specs.Alternatives.{blockBelow, block, someDeclines, som
 use Rattle.book.proofs.Laws.Programs.{declined-reads, run-reads}
 use Rattle.book.proofs.Laws.Sound.{test-sound}
 use Rattle.book.proofs.Laws.Alternatives.{Chosen, InTable, block-own, join-block, declines-more, grants-more, grant-is}
-use Rattle.book.proofs.Laws.BeginSound.{touched-below}
+use Rattle.book.proofs.Laws.Touched.{touched-below}
 use Rattle.book.proofs.States.{state-row}
 use Rattle.book.proofs.Running.{ran-value}
 

@@ -37,12 +37,15 @@ blockBelow w b xs a (suc k) =
 unfoldable pub block : ℕ → Book → List Step → ℕ → ℕ
 block w b xs a = blockBelow w b xs a (b .count)
 
--- under an assignment of s the program declines, and under one it does not
+-- under an assignment of s the program declines
 unfoldable pub someDeclines : ℕ → Book → List Step → ℕ → Bool
 someDeclines w b xs s = any (2 ^ w) (λ a. member s a && declinesAt b xs a)
 
+-- under one it does not
 unfoldable pub someGrants : ℕ → Book → List Step → ℕ → Bool
 someGrants w b xs s = any (2 ^ w) (λ a. member s a && not (declinesAt b xs a))
+
+-- ---- as the code works them out, one block after the other
 
 -- the state s starts each touched item below k with the held value that it has under a
 abbrev pub StartsAs : Book → List Step → ℕ → ℕ → State → Type 0

@@ -14,10 +14,14 @@ use Rattle.book.specs.declared.Item.{Item}
 use Rattle.book.specs.declared.Opening.{Opening}
 use Rattle.book.specs.Book.{mostDistricts, mostItems, noRecord, noItem, noOpen, noBook}
 
--- each item is in one of the districts and has a value in range
+-- an item is in one of the districts and has a value in range
+abbrev pub goodItem : ℕ → Opening → Bool
+goodItem districts x = ltb (x .district) districts && inRange (x .value)
+
+-- each item is good
 abbrev pub goodItems : ℕ → List Opening → Bool
 goodItems districts [] = true
-goodItems districts (x ∷ xs) = ltb (x .district) districts && inRange (x .value) && goodItems districts xs
+goodItems districts (x ∷ xs) = goodItem districts x && goodItems districts xs
 
 -- "1 to 8 districts, 1 to 32 items"
 unfoldable pub goodOpening : ℕ → List Opening → Bool

@@ -1,10 +1,9 @@
 -- The items of a book that is to be opened as the code keeps them, in rows. Any count and any rows may be handed in.
-use mathlib.Core.Bool.{Bool, _&&_, cond}
+use mathlib.Core.Bool.{cond}
 use mathlib.Core.List.{List}
 use Prim.Native.Nat.{ℕ}
-use lib.Dec.{leb, ltb}
+use lib.Dec.{leb}
 use lib.ListN.{take}
-use Rattle.polyvalues.specs.Values.{inRange}
 use Rattle.book.specs.declared.Book.{Book}
 use Rattle.book.specs.declared.Opening.{Opening}
 use Rattle.book.specs.declared.maker.Openings.{Openings}
@@ -14,10 +13,6 @@ use Rattle.book.specs.Open.{opened}
 -- the items that count
 unfoldable pub openingsOf : Openings → List Opening
 openingsOf t = take (t .count) (t .items)
-
--- an item is in one of the districts and has a value in range
-abbrev pub goodItem : ℕ → Opening → Bool
-goodItem districts x = ltb (x .district) districts && inRange (x .value)
 
 -- the call: a count past the rows is refused, as more items than 32 are
 unfoldable pub openedRows : ℕ → ℕ → Openings → Book

@@ -1,6 +1,6 @@
 -- Two lists of pairs side by side, row by row.
 use mathlib.Core.Path.{_≡_, refl, sym, ap, _∙_}
-use mathlib.Core.Bool.{Bool, true, false, not, _&&_, _||_, or-assoc, false≢true}
+use mathlib.Core.Bool.{true, false, not, _&&_, _||_, false≢true}
 use mathlib.Core.List.{List, [], _∷_, _++_, append-nil}
 use Prim.Native.Nat.{ℕ, suc, _+_, _≤_, _<_}
 use native.Mathlib.Nat.{add-zero}
@@ -16,6 +16,7 @@ use Rattle.polyvalues.specs.Values.{equal}
 use Rattle.polyvalues.specs.Pairs.{assignments, noPair}
 use Rattle.polyvalues.specs.Polyvalues.{inUse, packed}
 use Rattle.polyvalues.specs.Operations.{occurs, different, together, same}
+use Rattle.polyvalues.proofs.Laws.Room.{occurs-append}
 use Rattle.polyvalues.proofs.Joining.{in-use-row, packed-in-use}
 
 -- ---- the same pairs
@@ -46,10 +47,6 @@ occurs-more v q i h = rw (drop-cons (inUse q) i noPair h, in-use-row q i h)
 
 pub occurs-done : (v : ℤ) (ps : List Pair) (i : ℕ) → length ps ≤ i → occurs v (drop i ps) ≡ false
 occurs-done v ps i h = rw (drop-of-length-le ps h)
-
-pub occurs-append : (v : ℤ) (ps qs : List Pair) → occurs v (ps ++ qs) ≡ (occurs v ps || occurs v qs)
-occurs-append v [] qs = refl
-occurs-append v (p ∷ ps) qs = ap (λ (b : Bool). equal v (p .value) || b) (occurs-append v ps qs) ∙ sym (or-assoc (equal v (p .value)) (occurs v ps) (occurs v qs))
 
 -- a value adds nothing where it occurs later, or in the other list, and else 1
 pub adds-first : (v : ℤ) (ps qs : List Pair) → occurs v ps ≡ true → 0 ≡ digit (not (occurs v (ps ++ qs)))

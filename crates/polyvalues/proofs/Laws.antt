@@ -2,6 +2,7 @@
 pub mod Values
 pub mod Holds
 pub mod Applying
+pub mod Asked
 pub mod Join
 pub mod Simplify
 pub mod Canon

@@ -16,6 +16,11 @@ abbrev pub askedAs : Option ℤ → Asked
 askedAs (some v) = Value v
 askedAs none = Refused
 
+-- the document's number for each answer: 0 accepted, "It refuses (2)"
+abbrev pub askedNumber : Asked → ℕ
+askedNumber (Value v) = 0
+askedNumber Refused = 2
+
 -- ---- the scan: how many pairs apply, where 2 is more than one, and the value of the first that does
 
 abbrev pub seen : ℕ → ℤ → Scan

@@ -74,11 +74,15 @@ pub fn begin(book: &mut Book, bytes: &[u8]) -> Result<Begun, Refusal> {
     Ok(Begun { number, grant })
 }
 
+/// What an event at a district names. Refusals in order: 15, 4, 1.
+fn named(book: &Book, number: TransactionNumber, district: u8) -> Result<(Place, usize), Refusal> {
+    check_sound(book)?;
+    Ok((book.place_of(number)?, book.district(district)?))
+}
+
 /// Refusals in order: 15, 4, 1, 9.
 pub fn ready(book: &mut Book, number: TransactionNumber, district: u8) -> Result<(), Refusal> {
-    check_sound(book)?;
-    let place = book.place_of(number)?;
-    let district = book.district(district)?;
+    let (place, district) = named(book, number, district)?;
     let record = &mut book.districts[district];
     if !record.is_busy_on(number) || record.phase != Phase::Computing {
         return Err(Refusal::DistrictNotOnIt);
@@ -92,9 +96,7 @@ pub fn ready(book: &mut Book, number: TransactionNumber, district: u8) -> Result
 
 /// Refusals in order: 15, 4, 1, 9.
 pub fn give_up(book: &mut Book, number: TransactionNumber, district: u8) -> Result<(), Refusal> {
-    check_sound(book)?;
-    let place = book.place_of(number)?;
-    let district = book.district(district)?;
+    let (place, district) = named(book, number, district)?;
     if !book.districts[district].is_busy_on(number) {
         return Err(Refusal::DistrictNotOnIt);
     }
@@ -134,9 +136,7 @@ pub fn decide(book: &mut Book, number: TransactionNumber, outcome: Outcome) -> R
 
 /// Refusals in order: 15, 4, 1, 12.
 pub fn hear(book: &mut Book, number: TransactionNumber, district: u8) -> Result<(), Refusal> {
-    check_sound(book)?;
-    let place = book.place_of(number)?;
-    let district = book.district(district)?;
+    let (place, district) = named(book, number, district)?;
     let outcome = book[place].decision.ok_or(Refusal::NotDecided)?;
 
     if book.districts[district].is_busy_on(number) {

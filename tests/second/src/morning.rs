@@ -4,6 +4,7 @@
 use crate::book::{Book, Phase, Transaction, TransactionNumber};
 use crate::conditions::Place;
 use crate::play;
+use crate::program::steps;
 use crate::rng::Rng;
 use crate::sheet::{Event, Sheet};
 
@@ -68,20 +69,19 @@ impl Layout {
     };
     /// About as many items as districts.
     pub const EVEN: Layout = Layout {
-        districts: 8,
         items: 10,
-        edge_values: false,
+        ..Layout::USUAL
     };
     /// Few items, so that many transactions meet in one.
     pub const SMALL: Layout = Layout {
         districts: 3,
         items: 4,
-        edge_values: false,
+        ..Layout::USUAL
     };
     pub const EDGE: Layout = Layout {
-        districts: 8,
         items: 12,
         edge_values: true,
+        ..Layout::USUAL
     };
 }
 
@@ -463,14 +463,4 @@ impl<'a> Morning<'a> {
         };
         (kind, item, operand)
     }
-}
-
-fn steps(steps: &[(u8, u8, i16)]) -> Vec<u8> {
-    steps
-        .iter()
-        .flat_map(|&(kind, item, operand)| {
-            let [high, low] = operand.to_be_bytes();
-            [kind, item, high, low]
-        })
-        .collect()
 }

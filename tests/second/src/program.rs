@@ -108,3 +108,14 @@ impl Step {
         })
     }
 }
+
+/// The bytes of steps: kind, item, operand.
+pub fn steps(steps: &[(u8, u8, i16)]) -> Vec<u8> {
+    steps
+        .iter()
+        .flat_map(|&(kind, item, operand)| {
+            let [high, low] = operand.to_be_bytes();
+            [kind, item, high, low]
+        })
+        .collect()
+}

@@ -12,6 +12,11 @@ fn refusal(text: &str) -> String {
     printed(&hex(text))
 }
 
+/// One district, one item and this one event, which starts at place 8.
+fn with_event(event: &str) -> String {
+    refusal(&format!("01 01 01 00 00 00 00 01 {event}"))
+}
+
 #[test]
 fn an_empty_sheet_ends_at_place_0() {
     assert_eq!(printed(&[]), "sheet 13 0\n");
@@ -68,7 +73,6 @@ fn a_value_out_of_range_is_the_fault_of_its_first_byte() {
 
 #[test]
 fn unknown_events_are_refused_and_short_ones_end_early() {
-    let with_event = |event: &str| refusal(&format!("01 01 01 00 00 00 00 01 {event}"));
     assert_eq!(with_event("00"), "sheet 13 8\n");
     assert_eq!(with_event("08"), "sheet 13 8\n");
     assert_eq!(with_event("FF 00"), "sheet 13 8\n");
@@ -81,7 +85,6 @@ fn unknown_events_are_refused_and_short_ones_end_early() {
 
 #[test]
 fn what_events_hold_is_judged_by_the_events() {
-    let with_event = |event: &str| refusal(&format!("01 01 01 00 00 00 00 01 {event}"));
     assert_eq!(with_event("01 00"), "1 3\nend\n");
     assert_eq!(with_event("02 FF FF FF"), "1 4\nend\n");
     assert_eq!(with_event("07 FF"), "1 2\nend\n");

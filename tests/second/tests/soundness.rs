@@ -46,10 +46,21 @@ fn set_both(book: &mut Book, item: usize, polyvalue: Polyvalue) {
     book.items[item].pending = polyvalue;
 }
 
+/// A change that breaks one clause, and what it is.
+type Break = (&'static str, fn(&mut Book));
+
+/// Each change alone makes the book unsound.
+fn refused(breaks: &[Break]) {
+    for (what, spoil) in breaks {
+        let mut book = busy_book();
+        spoil(&mut book);
+        assert!(!sound(&book), "{what}");
+    }
+}
+
 #[test]
 fn each_clause_counts() {
-    type Break = fn(&mut Book);
-    let breaks: [(&str, Break); 27] = [
+    refused(&[
         ("no districts", |book| book.districts.clear()),
         ("nine districts", |book| {
             book.districts.resize(9, Default::default())
@@ -129,28 +140,25 @@ fn each_clause_counts() {
         ("pending depends on its own transaction", |book| {
             book.items[2].pending = either(AFTER_T2)
         }),
-    ];
-    for (what, spoil) in breaks {
-        let mut book = busy_book();
-        spoil(&mut book);
-        assert!(!sound(&book), "{what}");
-    }
+    ]);
 }
 
 #[test]
 fn sets_of_districts_are_apart_within_touched_and_below_the_count() {
-    let mut book = busy_book();
-    book.places[1].gave_up = DistrictSet(4);
-    assert!(!sound(&book), "ready and gave up");
-    let mut book = busy_book();
-    book.places[1].touched = DistrictSet(0b10110);
-    assert!(!sound(&book), "touches a district past the count");
-    let mut book = busy_book();
-    book.places[0].touched = DistrictSet(0b1001);
-    assert!(!sound(&book), "completed with a touched district not ready");
-    let mut book = busy_book();
-    book.places[0].gave_up = DistrictSet(1);
-    assert!(!sound(&book), "gave up where not touched");
+    refused(&[
+        ("ready and gave up", |book| {
+            book.places[1].gave_up = DistrictSet(4)
+        }),
+        ("touches a district past the count", |book| {
+            book.places[1].touched = DistrictSet(0b10110)
+        }),
+        ("completed with a touched district not ready", |book| {
+            book.places[0].touched = DistrictSet(0b1001)
+        }),
+        ("gave up where not touched", |book| {
+            book.places[0].gave_up = DistrictSet(1)
+        }),
+    ]);
 }
 
 #[test]

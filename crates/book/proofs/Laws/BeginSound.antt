@@ -1,18 +1,18 @@
 -- Begin: sound in, sound out.
 use mathlib.Core.Path.{_≡_, refl, sym, _∙_, ap, ap₂}
 use mathlib.Core.Bool.{Bool, true, false, not, _&&_, cond, true≢false, false≢true, and-false}
-use mathlib.Core.List.{List, [], _∷_}
+use mathlib.Core.List.{List}
 use Prim.Native.Nat.{ℕ, suc, _^_, _≤_, _<_}
 use native.Mathlib.Omega.{arith}
 use lib.Dec.{eqb, ltb}
-use lib.IntN.{ℤ, pos, negsuc}
+use lib.IntN.{ℤ}
 use lib.ListN.{length, length-set}
 use lib.Pow.{pow-mono, pow-pos}
 use borrow.Author.Tests.{eqb-true, eq-eqb, ne-eqb, ltb-true, ltb-false, not-true, not-false}
 use Rattle.conditions.specs.Sets.{member, setOf}
 use Rattle.conditions.specs.Places.{withPlace}
 use Rattle.conditions.specs.Conditions.{full}
-use Rattle.conditions.proofs.Laws.Below.{and-left, and-right, or-left, or-right, by-cases, any-none, any-of, any-some, first-passes}
+use Rattle.conditions.proofs.Laws.Below.{and-left, and-right, by-cases, any-none, any-of, any-some, first-passes}
 use Rattle.conditions.proofs.Laws.Sets.{member-past, member-none, setOf-lt, member-setOf, is-setOf}
 use Rattle.polyvalues.specs.Pairs.{depends}
 use Rattle.polyvalues.specs.Polyvalues.{room, inUse, packed, WellFormed}
@@ -28,46 +28,19 @@ use Rattle.book.specs.declared.Open.{Open}
 use Rattle.book.specs.declared.Step.{Step}
 use Rattle.book.specs.declared.Book.{Book}
 use Rattle.book.specs.Book.{mostDistricts, mostItems, lastNumber, noRecord, noOpen, voidItem, recordAt, itemAt, openAt, recordOn, itemOn, isOpen, named, placeOf, freePlace, itemDepends}
-use Rattle.book.specs.Programs.{isCopy, numbered, run, names, touches}
+use Rattle.book.specs.Programs.{run, touches}
 use Rattle.book.specs.Records.{beginRecord}
 use Rattle.book.specs.Items.{becomes}
-use Rattle.book.specs.Begin.{someStep, badStep, inTable, outside, heldAt, results, someBusy, tooMany, touchesDistrict, beginItem, begun}
+use Rattle.book.specs.Begin.{someStep, badStep, outside, heldAt, results, someBusy, tooMany, touchesDistrict, beginItem, begun}
 use Rattle.book.specs.Sound.{Sound}
 use Rattle.book.proofs.Laws.Rows.{length-rows, getD-rows, past-rows}
 use Rattle.book.proofs.Laws.Programs.{run-reads, run-range}
+use Rattle.book.proofs.Laws.Touched.{touched-below}
 use Rattle.book.proofs.Laws.Sound.{place-named}
 use Rattle.book.proofs.Laws.Shaped.{ShapedItem, Shaped, getD-set}
 use Rattle.book.proofs.Laws.Values.{begin-item}
 use Rattle.book.proofs.Laws.But.{DistrictRow, ItemRow, OpenRow, SoundBut, sound-but, placeOf-is, placeOf-kept, seen-same, district-stays, item-stays, on-busy, place-open}
 use Rattle.book.proofs.Laws.Settling.{packed-length, neither-depends, depends-neither}
-
--- ---- a program whose items are in the table touches items of the table
-
-in-table : (k : ℕ) (z : ℤ) → inTable k z ≡ true → numbered z < k
-in-table k (pos m) e = ltb-true m k e
-in-table k (negsuc m) e = absurd (false≢true e)
-
-names-below : (k : ℕ) (x : Step) (i : ℕ) → outside k x ≡ false → names x i ≡ true → i < k
-unfolding outside names
-names-below k x i e f =
-    by-cases (eqb (x .item) i)
-    (λ a.
-    let m : x .item ≡ i = eqb-true (x .item) i a in
-    let h : x .item < k = ltb-true (x .item) k (not-false _ (or-left (not (ltb (x .item) k)) _ e)) in
-    omega arith)
-    (λ a.
-    let u : (isCopy x && eqb (numbered (x .operand)) i) ≡ true = rw a at f in
-    let copies : isCopy x ≡ true = and-left (isCopy x) _ u in
-    let v : not (inTable k (x .operand)) ≡ false = rw copies at (or-right (not (ltb (x .item) k)) _ e) in
-    omega (arith, in-table k (x .operand) (not-false _ v), eqb-true (numbered (x .operand)) i (and-right (isCopy x) _ u)))
-
-pub touched-below : (k : ℕ) (xs : List Step) (i : ℕ) → someStep (outside k) xs ≡ false → touches xs i ≡ true → i < k
-unfolding touches
-touched-below k [] i e f = absurd (false≢true f)
-touched-below k (x ∷ xs) i e f =
-    by-cases (names x i)
-    (λ a. names-below k x i (or-left (outside k x) _ e) a)
-    (λ a. touched-below k xs i (or-right (outside k x) _ e) (rw a at f))
 
 -- a set of districts below the count
 set-below : (k m : ℕ) (f : ℕ → Bool) → m ≤ k → ((d : ℕ) → d < k → f d ≡ true → d < m) → setOf k f < 2 ^ m

@@ -24,14 +24,14 @@ use Rattle.book.specs.Decide.{completeAnswer, abortAnswer, decide, compl
 use Rattle.book.specs.Hear.{hearAnswer, outcome, heard, hear}
 use Rattle.book.proofs.Laws.Sound.{place-named}
 use Rattle.book.proofs.Laws.Shaped.{Shaped}
-use Rattle.book.proofs.Laws.Values.{valueAt, forget-item, ready-item, decide-item, begin-held, begin-pending, give-up-held, give-up-pending, hear-held, hear-pending}
+use Rattle.book.proofs.Laws.Values.{valueUnder, forget-item, ready-item, decide-item, begin-held, begin-pending, give-up-held, give-up-pending, hear-held, hear-pending}
 use Rattle.book.proofs.Laws.Settling.{concerned-busy}
 use Rattle.book.proofs.Laws.Calls.{GivesUp, Hears, done-accepted, begin-accepted, begin-tests, give-up-tests, hear-tests}
 
 -- an item's held and pending value under the assignment a: u and v
 pub record Worth (x : Item) (a : ℕ) (u v : ℤ) : Type 0 where
-  pub held : valueAt (x .held) a ≡ u
-  pub pending : valueAt (x .pending) a ≡ v
+  pub held : valueUnder (x .held) a ≡ u
+  pub pending : valueUnder (x .pending) a ≡ v
 
 -- an accepted call gives the items of its event: forgetting changes none
 done-item : (w : ℕ) (a : Answer) (after before : Book) → accepted a ≡ true → (i : ℕ) → itemAt (done w a after before .book) i ≡ itemAt after i
@@ -57,8 +57,8 @@ module _ (w : ℕ) (b : Book) (t : Shaped w b) (i : ℕ) (h : i < b .count) (a :
 
   -- "For each of the 64 assignments run the program on the held values chosen by it. The results are the touched items' pending polyvalues."
   pub begin-values : (bytes : List ℕ) → accepted (begin w b bytes .answer) ≡ true
-      → Worth (itemAt (begin w b bytes .book) i) a (valueAt (itemAt b i .held) a)
-      (cond (touches (steps bytes) i) (run (steps bytes) (heldAt b a) i) (valueAt (itemAt b i .pending) a))
+      → Worth (itemAt (begin w b bytes .book) i) a (valueUnder (itemAt b i .held) a)
+      (cond (touches (steps bytes) i) (run (steps bytes) (heldAt b a) i) (valueUnder (itemAt b i .pending) a))
   unfolding begin
   begin-values bytes e =
       let s = begin-tests w b bytes e .0 in
@@ -70,18 +70,18 @@ module _ (w : ℕ) (b : Book) (t : Shaped w b) (i : ℕ) (h : i < b .count) (a :
   -- "From computing: pending becomes held .. From waiting: each item becomes its pending value where the transaction completes and its held value where it aborts"
   abbrev givenUp : ℕ → ℕ → ℤ
   givenUp n d =
-      cond (computingOn n (recordAt b d)) (valueAt (itemAt b i .held) a)
-      (cond (member a (placeOf w b n)) (valueAt (itemAt b i .pending) a) (valueAt (itemAt b i .held) a))
+      cond (computingOn n (recordAt b d)) (valueUnder (itemAt b i .held) a)
+      (cond (member a (placeOf w b n)) (valueUnder (itemAt b i .pending) a) (valueUnder (itemAt b i .held) a))
 
   pub give-up-values : (n d : ℕ) → accepted (giveUp w b n d .answer) ≡ true
       → Worth (itemAt (giveUp w b n d .book) i) a
-      (cond (there d (itemAt b i)) (givenUp n d) (valueAt (itemAt b i .held) a))
-      (cond (there d (itemAt b i)) (givenUp n d) (valueAt (itemAt b i .pending) a))
+      (cond (there d (itemAt b i)) (givenUp n d) (valueUnder (itemAt b i .held) a))
+      (cond (there d (itemAt b i)) (givenUp n d) (valueUnder (itemAt b i .pending) a))
   unfolding giveUp done
   give-up-values n d e =
       rw (done-item w (giveUpAnswer w b n d) (gaveUp w b n d) b e i) (record {
         held = held;
-        pending = ap (λ (v : Polyvalue). valueAt v a) (give-up-pending w b (f .sound) t n d i h)
+        pending = ap (λ (v : Polyvalue). valueUnder v a) (give-up-pending w b (f .sound) t n d i h)
             ∙ rw onIt (by-cases (there d x) (λ k. rw k (held ∙ rw k)) (λ k. rw k));
       })
     where
@@ -91,7 +91,7 @@ module _ (w : ℕ) (b : Book) (t : Shaped w b) (i : ℕ) (h : i < b .count) (a :
       onIt : concerned b n d x ≡ there d x
       onIt = concerned-busy b n d (f .sound .phases d (f .district)) (place-named w b n (f .place) .1) x ∙ rw (f .on) (and-true (there d x))
 
-      held : valueAt (itemAt (gaveUp w b n d) i .held) a ≡ cond (there d x) (givenUp n d) (valueAt (x .held) a)
+      held : valueUnder (itemAt (gaveUp w b n d) i .held) a ≡ cond (there d x) (givenUp n d) (valueUnder (x .held) a)
       held = rw onIt at (give-up-held w b (f .sound) t n d i h a l)
 
   -- "If it is busy on that transaction it installs pending (completed) or drops it (aborted) .. Then every held and pending polyvalue there is reduced: its value under
@@ -99,12 +99,12 @@ module _ (w : ℕ) (b : Book) (t : Shaped w b) (i : ℕ) (h : i < b .count) (a :
   abbrev heardAs : ℕ → ℕ → (ℕ → ℤ) → ℤ
   heardAs n d v =
       let set : ℕ = withPlace w a (placeOf w b n) (outcome (openOf w b n)) in
-      cond (busyOn n (recordAt b d)) (cond (outcome (openOf w b n)) (valueAt (itemAt b i .pending) set) (valueAt (itemAt b i .held) set)) (v set)
+      cond (busyOn n (recordAt b d)) (cond (outcome (openOf w b n)) (valueUnder (itemAt b i .pending) set) (valueUnder (itemAt b i .held) set)) (v set)
 
   pub hear-values : (n d : ℕ) → accepted (hear w b n d .answer) ≡ true
       → Worth (itemAt (hear w b n d .book) i) a
-      (cond (there d (itemAt b i)) (heardAs n d (valueAt (itemAt b i .held))) (valueAt (itemAt b i .held) a))
-      (cond (there d (itemAt b i)) (heardAs n d (valueAt (itemAt b i .pending))) (valueAt (itemAt b i .pending) a))
+      (cond (there d (itemAt b i)) (heardAs n d (valueUnder (itemAt b i .held))) (valueUnder (itemAt b i .held) a))
+      (cond (there d (itemAt b i)) (heardAs n d (valueUnder (itemAt b i .pending))) (valueUnder (itemAt b i .pending) a))
   unfolding hear done
   hear-values n d e =
       rw (done-item w (hearAnswer w b n d) (heard w b n d) b e i) (record {

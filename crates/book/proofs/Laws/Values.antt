@@ -36,20 +36,20 @@ use Rattle.book.proofs.Laws.Rows.{getD-rows}
 use Rattle.book.proofs.Laws.Shaped.{Shaped}
 
 -- the value of a polyvalue under an assignment
-abbrev pub valueAt : Polyvalue → ℕ → ℤ
-valueAt v a = at (inUse v) a
+abbrev pub valueUnder : Polyvalue → ℕ → ℤ
+valueUnder v a = at (inUse v) a
 
 -- ---- one polyvalue
 
-packed-at : (ps : List Pair) (a : ℕ) → valueAt (packed ps) a ≡ at ps a
+packed-at : (ps : List Pair) (a : ℕ) → valueUnder (packed ps) a ≡ at ps a
 packed-at ps a = ap (λ (qs : List Pair). at qs a) (inUse-packed ps)
 
-reduce-at : (w q : ℕ) (o : Bool) (ps : List Pair) → Complete w ps → (a : ℕ) → a < 2 ^ w → valueAt (packed (reduce w q o ps)) a ≡ at ps (withPlace w a q o)
+reduce-at : (w q : ℕ) (o : Bool) (ps : List Pair) → Complete w ps → (a : ℕ) → a < 2 ^ w → valueUnder (packed (reduce w q o ps)) a ≡ at ps (withPlace w a q o)
 reduce-at w q o ps c a h =
     packed-at (reduce w q o ps) a ∙ ap (λ (qs : List Pair). at qs a) (reduce-canon w q o ps c) ∙ at-canon w (λ a. at ps (withPlace w a q o)) a h
 
 select-at : (w q : ℕ) (done gone : List Pair) → Complete w done → Complete w gone → (a : ℕ) → a < 2 ^ w
-    → valueAt (packed (select w q done gone)) a ≡ cond (member a q) (at done a) (at gone a)
+    → valueUnder (packed (select w q done gone)) a ≡ cond (member a q) (at done a) (at gone a)
 select-at w q done gone c d a h =
     packed-at (select w q done gone) a ∙ ap (λ (qs : List Pair). at qs a) (select-canon w q done gone c d)
     ∙ at-canon w (λ a. cond (member a q) (at done a) (at gone a)) a h
@@ -94,10 +94,10 @@ module _ (w : ℕ) (b : Book) (s : Sound w b) (t : Shaped w b) where
 
   -- "The results are the touched items' pending polyvalues."
   pub begin-pending : (xs : List Step) (i : ℕ) → i < b .count → (a : ℕ) → a < 2 ^ w
-      → valueAt (itemAt (begun w b xs) i .pending) a ≡ cond (touches xs i) (run xs (heldAt b a) i) (valueAt (itemAt b i .pending) a)
+      → valueUnder (itemAt (begun w b xs) i .pending) a ≡ cond (touches xs i) (run xs (heldAt b a) i) (valueUnder (itemAt b i .pending) a)
   unfolding beginItem results
   begin-pending xs i h a l =
-      ap (λ (x : Item). valueAt (x .pending) a) (begin-item xs i h)
+      ap (λ (x : Item). valueUnder (x .pending) a) (begin-item xs i h)
       ∙ by-cases (touches xs i)
       (λ e. rw e (packed-at (results w b xs i) a ∙ at-canon w (λ a. run xs (heldAt b a) i) a l))
       (λ e. rw e)
@@ -108,19 +108,19 @@ module _ (w : ℕ) (b : Book) (s : Sound w b) (t : Shaped w b) where
   unfolding gaveUp
   give-up-item n d i h = getD-rows (λ i x. giveUpItem w b n d (placeOf w b n) (computingOn n (recordAt b d)) x) voidItem (b .count) (b .items) i h (inside i h)
 
-  split-at : (q i : ℕ) → i < b .count → (a : ℕ) → a < 2 ^ w → valueAt (split w q (itemAt b i) .held) a ≡ cond (member a q) (valueAt (itemAt b i .pending) a) (valueAt (itemAt b i .held) a)
+  split-at : (q i : ℕ) → i < b .count → (a : ℕ) → a < 2 ^ w → valueUnder (split w q (itemAt b i) .held) a ≡ cond (member a q) (valueUnder (itemAt b i .pending) a) (valueUnder (itemAt b i .held) a)
   unfolding split
   split-at q i h a l = select-at w q (inUse (itemAt b i .pending)) (inUse (itemAt b i .held)) (pending-complete i h) (held-complete i h) a l
 
   -- "From computing: pending becomes held .. From waiting: each item becomes its pending value where the transaction completes and its held value where it aborts"
   pub give-up-held : (n d i : ℕ) → i < b .count → (a : ℕ) → a < 2 ^ w
-      → valueAt (itemAt (gaveUp w b n d) i .held) a
+      → valueUnder (itemAt (gaveUp w b n d) i .held) a
       ≡ cond (concerned b n d (itemAt b i))
-      (cond (computingOn n (recordAt b d)) (valueAt (itemAt b i .held) a) (cond (member a (placeOf w b n)) (valueAt (itemAt b i .pending) a) (valueAt (itemAt b i .held) a)))
-      (valueAt (itemAt b i .held) a)
+      (cond (computingOn n (recordAt b d)) (valueUnder (itemAt b i .held) a) (cond (member a (placeOf w b n)) (valueUnder (itemAt b i .pending) a) (valueUnder (itemAt b i .held) a)))
+      (valueUnder (itemAt b i .held) a)
   unfolding giveUpItem
   give-up-held n d i h a l =
-      ap (λ (x : Item). valueAt (x .held) a) (give-up-item n d i h)
+      ap (λ (x : Item). valueUnder (x .held) a) (give-up-item n d i h)
       ∙ by-cases (concerned b n d (itemAt b i))
       (λ e. rw e (by-cases (computingOn n (recordAt b d)) (λ f. rw f) (λ f. rw f (split-at (placeOf w b n) i h a l))))
       (λ e. rw e)
@@ -143,41 +143,41 @@ module _ (w : ℕ) (b : Book) (s : Sound w b) (t : Shaped w b) where
 
   -- "If it is busy on that transaction it installs pending (completed) or drops it (aborted) .. Then every held and pending polyvalue there is reduced"
   pub hear-held : (n d i : ℕ) → i < b .count → (a : ℕ) → a < 2 ^ w
-      → valueAt (itemAt (heard w b n d) i .held) a
+      → valueUnder (itemAt (heard w b n d) i .held) a
       ≡ cond (there d (itemAt b i))
       (cond (concerned b n d (itemAt b i))
-      (cond (outcome (openOf w b n)) (valueAt (itemAt b i .pending) (withPlace w a (placeOf w b n) (outcome (openOf w b n))))
-      (valueAt (itemAt b i .held) (withPlace w a (placeOf w b n) (outcome (openOf w b n)))))
-      (valueAt (itemAt b i .held) (withPlace w a (placeOf w b n) (outcome (openOf w b n)))))
-      (valueAt (itemAt b i .held) a)
+      (cond (outcome (openOf w b n)) (valueUnder (itemAt b i .pending) (withPlace w a (placeOf w b n) (outcome (openOf w b n))))
+      (valueUnder (itemAt b i .held) (withPlace w a (placeOf w b n) (outcome (openOf w b n)))))
+      (valueUnder (itemAt b i .held) (withPlace w a (placeOf w b n) (outcome (openOf w b n)))))
+      (valueUnder (itemAt b i .held) a)
   unfolding hearItem reduceItem
   hear-held n d i h a l =
-      ap (λ (x : Item). valueAt (x .held) a) (hear-item n d i h)
+      ap (λ (x : Item). valueUnder (x .held) a) (hear-item n d i h)
       ∙ by-cases (there d (itemAt b i)) (λ e. rw e (go (concerned b n d (itemAt b i)) (outcome (openOf w b n)))) (λ e. rw e)
     where
-      go : (c o : Bool) → valueAt (reduceItem w (placeOf w b n) o (cond c (cond o (install (itemAt b i)) (drop (itemAt b i))) (itemAt b i)) .held) a
-          ≡ cond c (cond o (valueAt (itemAt b i .pending) (withPlace w a (placeOf w b n) o)) (valueAt (itemAt b i .held) (withPlace w a (placeOf w b n) o)))
-          (valueAt (itemAt b i .held) (withPlace w a (placeOf w b n) o))
+      go : (c o : Bool) → valueUnder (reduceItem w (placeOf w b n) o (cond c (cond o (install (itemAt b i)) (drop (itemAt b i))) (itemAt b i)) .held) a
+          ≡ cond c (cond o (valueUnder (itemAt b i .pending) (withPlace w a (placeOf w b n) o)) (valueUnder (itemAt b i .held) (withPlace w a (placeOf w b n) o)))
+          (valueUnder (itemAt b i .held) (withPlace w a (placeOf w b n) o))
       go true true = reduce-at w (placeOf w b n) true (inUse (itemAt b i .pending)) (pending-complete i h) a l
       go true false = reduce-at w (placeOf w b n) false (inUse (itemAt b i .held)) (held-complete i h) a l
       go false o = reduce-at w (placeOf w b n) o (inUse (itemAt b i .held)) (held-complete i h) a l
 
   pub hear-pending : (n d i : ℕ) → i < b .count → (a : ℕ) → a < 2 ^ w
-      → valueAt (itemAt (heard w b n d) i .pending) a
+      → valueUnder (itemAt (heard w b n d) i .pending) a
       ≡ cond (there d (itemAt b i))
       (cond (concerned b n d (itemAt b i))
-      (cond (outcome (openOf w b n)) (valueAt (itemAt b i .pending) (withPlace w a (placeOf w b n) (outcome (openOf w b n))))
-      (valueAt (itemAt b i .held) (withPlace w a (placeOf w b n) (outcome (openOf w b n)))))
-      (valueAt (itemAt b i .pending) (withPlace w a (placeOf w b n) (outcome (openOf w b n)))))
-      (valueAt (itemAt b i .pending) a)
+      (cond (outcome (openOf w b n)) (valueUnder (itemAt b i .pending) (withPlace w a (placeOf w b n) (outcome (openOf w b n))))
+      (valueUnder (itemAt b i .held) (withPlace w a (placeOf w b n) (outcome (openOf w b n)))))
+      (valueUnder (itemAt b i .pending) (withPlace w a (placeOf w b n) (outcome (openOf w b n)))))
+      (valueUnder (itemAt b i .pending) a)
   unfolding hearItem reduceItem
   hear-pending n d i h a l =
-      ap (λ (x : Item). valueAt (x .pending) a) (hear-item n d i h)
+      ap (λ (x : Item). valueUnder (x .pending) a) (hear-item n d i h)
       ∙ by-cases (there d (itemAt b i)) (λ e. rw e (go (concerned b n d (itemAt b i)) (outcome (openOf w b n)))) (λ e. rw e)
     where
-      go : (c o : Bool) → valueAt (reduceItem w (placeOf w b n) o (cond c (cond o (install (itemAt b i)) (drop (itemAt b i))) (itemAt b i)) .pending) a
-          ≡ cond c (cond o (valueAt (itemAt b i .pending) (withPlace w a (placeOf w b n) o)) (valueAt (itemAt b i .held) (withPlace w a (placeOf w b n) o)))
-          (valueAt (itemAt b i .pending) (withPlace w a (placeOf w b n) o))
+      go : (c o : Bool) → valueUnder (reduceItem w (placeOf w b n) o (cond c (cond o (install (itemAt b i)) (drop (itemAt b i))) (itemAt b i)) .pending) a
+          ≡ cond c (cond o (valueUnder (itemAt b i .pending) (withPlace w a (placeOf w b n) o)) (valueUnder (itemAt b i .held) (withPlace w a (placeOf w b n) o)))
+          (valueUnder (itemAt b i .pending) (withPlace w a (placeOf w b n) o))
       go true true = reduce-at w (placeOf w b n) true (inUse (itemAt b i .pending)) (pending-complete i h) a l
       go true false = reduce-at w (placeOf w b n) false (inUse (itemAt b i .held)) (held-complete i h) a l
       go false o = reduce-at w (placeOf w b n) o (inUse (itemAt b i .pending)) (pending-complete i h) a l

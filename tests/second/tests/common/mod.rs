@@ -6,6 +6,7 @@ use second::conditions::{Condition, Outcome};
 use second::events::{self, Grant};
 use second::play;
 use second::polyvalue::Polyvalue;
+pub use second::program::steps;
 use second::text;
 
 pub const NEED: u8 = 1;
@@ -27,16 +28,6 @@ pub fn printed(sheet: &[u8]) -> String {
 
 pub fn number(number: u16) -> TransactionNumber {
     TransactionNumber(number)
-}
-
-pub fn steps(steps: &[(u8, u8, i16)]) -> Vec<u8> {
-    steps
-        .iter()
-        .flat_map(|&(kind, item, operand)| {
-            let [high, low] = operand.to_be_bytes();
-            [kind, item, high, low]
-        })
-        .collect()
 }
 
 /// One district with one item.

@@ -1,6 +1,6 @@
 -- By the district's bit.
 use borrow.Author.Needs.{needs}
-use mathlib.Core.Path.{_≡_, sym, _∙_}
+use mathlib.Core.Path.{sym, _∙_}
 use borrow.Author.Needs.{needs}
 use Rattle.book.proofs.touched.begun.Statement.{statement}
 use Rattle.book.proofs.touched.begun.Tie as tie

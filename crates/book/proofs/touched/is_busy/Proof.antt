@@ -1,14 +1,12 @@
 -- A touched item, on a transaction.
 use borrow.Author.Needs.{needs}
-use mathlib.Core.Path.{_≡_, sym, ap, _∙_}
-use mathlib.Core.Bool.{Bool, not, _&&_}
+use mathlib.Core.Path.{sym, ap, _∙_}
+use mathlib.Core.Bool.{not}
 use Prim.Native.Nat.{ℕ}
 use lib.Dec.{eqb}
-use lib.ListN.{getD}
 use borrow.Author.Needs.{needs}
 use borrow.Author.Tests.{not-true, not-false}
-use Rattle.book.specs.declared.Record.{Record}
-use Rattle.book.specs.Book.{noRecord, recordOn, itemOn}
+use Rattle.book.specs.Book.{itemOn}
 use Rattle.book.proofs.touched.is_busy.Statement.{statement}
 use Rattle.book.proofs.touched.is_busy.Tie as tie
 

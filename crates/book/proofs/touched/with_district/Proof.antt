@@ -1,14 +1,13 @@
 -- A district past the last one is no district's number.
-use borrow.Author.Needs.{needs}
 use mathlib.Core.Path.{_≡_, sym, ap, _∙_}
-use mathlib.Core.Bool.{Bool, true, false, _&&_, _||_, cond, or-false, or-true, and-false}
-use Prim.Native.Nat.{ℕ, _<_}
+use mathlib.Core.Bool.{false, or-false, and-false}
+use Prim.Native.Nat.{ℕ}
 use native.Mathlib.Omega.{arith}
 use lib.Dec.{eqb}
 use borrow.Author.Needs.{needs}
 use borrow.Author.Tests.{not-true, not-false, ne-eqb}
 use Rattle.conditions.specs.Sets.{member}
-use Rattle.book.proofs.Districts.{member-including}
+use Rattle.book.proofs.Districts.{including-either}
 use Rattle.book.specs.Programs.{touches}
 use Rattle.book.specs.States.{stepsOf}
 use Rattle.book.proofs.touched.with_district.Statement.{statement}
@@ -30,7 +29,7 @@ including-requires : tie.Need-including-requires
 including-requires c κs = omega arith
 
 returns-3 : tie.Need-returns-3
-returns-3 c = λ d h. ap (λ (s : ℕ). member s d) (c .including .ensures) ∙ member-including (c .before .before .before .before .before .args .set) (c .before .before .before .before .before .args .x .district) d h ∙ rw (sym (c .before .before .before .before .touches .ensures) ∙ not-false _ (c .before .before .before .if1 .left))
+returns-3 c = λ d h. ap (λ (s : ℕ). member s d) (c .including .ensures) ∙ including-either (c .before .before .before .before .before .args .set) (c .before .before .before .before .before .args .x .district) d h ∙ rw (sym (c .before .before .before .before .touches .ensures) ∙ not-false _ (c .before .before .before .if1 .left))
 
 pub with-district-spec : {M : Type 1} → statement M
 with-district-spec =

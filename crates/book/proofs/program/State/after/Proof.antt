@@ -9,7 +9,8 @@ use Rattle.book.specs.Book.{mostItems}
 use Rattle.book.specs.Programs.{numbered, takes}
 use Rattle.book.specs.States.{stateOf, rowsOf, added}
 use Rattle.book.proofs.States.{Held, values-long}
-use Rattle.book.proofs.Naming.{back, item-below, source-below}
+use Rattle.book.proofs.Naming.{back}
+use Rattle.book.proofs.Laws.Touched.{item-below, source-below}
 use Rattle.book.proofs.Running.{stepped-need, stepped-add, stepped-set, stepped-copy, stepped-other}
 use Rattle.book.proofs.program.State.after.Statement.{statement}
 use Rattle.book.proofs.program.State.after.Tie as tie
