@@ -13,3 +13,4 @@ mod Filling
 mod Making
 mod Showing
 mod Working
+mod Beginning

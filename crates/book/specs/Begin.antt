@@ -130,15 +130,18 @@ begun w b xs =
       «open» = set (b .«open») (freePlace w b) (record { number = record { 0 = n }; touched = setOf mostDistricts (touchesDistrict b xs); ready = 0; gave = 0; decision = 0 });
     }
 
--- the call: the program's bytes. A refused one gives number 0 and grant 0.
-unfoldable pub begin : ℕ → Book → List ℕ → Begun
-begin w b bytes =
-    let a : Answer = beginAnswer w b bytes in
-    let granted : ℕ = grant w b (steps bytes) in
-    let after : Book = forget w (begun w b (steps bytes)) in
+-- what a begin that answers a returns. A refused one gives number 0 and grant 0, and the book as it came.
+abbrev pub begins : ℕ → Answer → Book → List Step → Begun
+begins w a b xs =
+    let granted : ℕ = grant w b xs in
+    let after : Book = forget w (begun w b xs) in
     record {
       answer = a;
       number = record { 0 = cond (accepted a) (suc (b .last .0)) 0 };
       grant = cond (accepted a) granted 0;
       book = cond (accepted a) after b;
     }
+
+-- the call: the program's bytes
+unfoldable pub begin : ℕ → Book → List ℕ → Begun
+begin w b bytes = begins w (beginAnswer w b bytes) b (steps bytes)
