@@ -11,6 +11,7 @@ use Rattle.conditions.proofs.Laws.Sets.{member-setOf}
 use Rattle.polyvalues.specs.declared.polyvalue.Polyvalue.{Polyvalue}
 use Rattle.book.specs.declared.Answer.{Answer}
 use Rattle.book.specs.declared.Answer.the-variants.{NotIdle, AllOpen, NumbersGiven, TooManyValues}
+use Rattle.book.specs.declared.Begun.{Begun}
 use Rattle.book.specs.declared.Book.{Book}
 use Rattle.book.specs.declared.Item.{Item}
 use Rattle.book.specs.declared.Record.{Record}
@@ -60,7 +61,7 @@ begun-is w b xs {s} few es er ei eq =
 abbrev pub later : ℕ → Book → List Step → List (Bool × Answer)
 later w b xs = (someBusy b xs, NotIdle) ∷ (not (ltb (freePlace w b) w), AllOpen) ∷ (not (ltb (b .last .0) lastNumber), NumbersGiven) ∷ (tooMany w b xs, TooManyValues) ∷ []
 
-pub begin-later : (w : ℕ) (b : Book) (bytes : List ℕ) (xs : List Step) → sound w b ≡ true → badProgram bytes ≡ false → steps bytes ≡ xs → someStep (outside (b .count)) xs ≡ false
-    → begins w (firstOf (later w b xs)) b xs ≡ begin w b bytes
+pub begin-later : (w : ℕ) (b : Book) (bytes : List ℕ) {xs : List Step} {r : Begun} → sound w b ≡ true → badProgram bytes ≡ false → steps bytes ≡ xs → someStep (outside (b .count)) xs ≡ false
+    → r ≡ begins w (firstOf (later w b xs)) b xs → r ≡ begin w b bytes
 unfolding begin beginAnswer firstOf
-begin-later w b bytes xs s good e inside = rw (s, good, e, inside)
+begin-later w b bytes s good e inside is = rw (s, good, e, inside) is

@@ -145,11 +145,12 @@ fn begin_program(b: Book, p: Program) -> Begun
     requires { ⌜ someStep (outside (b .count)) (stepsOf p) ≡ false ⌝ }
     ensures { λ r. ⌜ ((bytes : List ℕ) → badProgram bytes ≡ false → steps bytes ≡ stepsOf p → r ≡ begin places b bytes) ⌝ }
 {
-    if some_busy(b, p) {
-        return refused(b, Answer::NotIdle);
-    }
+    let is_busy = some_busy(b, p);
     let open = b.open;
     let q = free_place(open);
+    if is_busy {
+        return refused(b, Answer::NotIdle);
+    }
     if PLACES <= q {
         return refused(b, Answer::AllOpen);
     }
