@@ -3,6 +3,7 @@
 // Every public function is proved to return what its definition in `specs/` says, for every argument:
 // any book may be handed in. No public function has a `requires`, and nothing is assumed.
 mod alternatives;
+mod answers;
 mod begin;
 mod decide;
 mod forget;
