@@ -76,7 +76,8 @@ pub(crate) fn begun(b: Book, p: Program, w: Worked, q: usize) -> Book
     ensures { λ r. ⌜ r ≡ begun places b (stepsOf p) ⌝ }
 {
     let before = b.last.0;
-    let number = TransactionNumber(before + 1);
+    let next = before + 1;
+    let number = TransactionNumber(next);
     let set = touched(b, p);
     let records = begun_records(b, set, number);
     let items = begun_items(b, p, w);

@@ -6,8 +6,8 @@ use Rattle.book.proofs.Beginning.{begun-is}
 use Rattle.book.proofs.begin.begun.Statement.{statement}
 use Rattle.book.proofs.begin.begun.Tie as tie
 
-add-t12 : tie.Need-add-t12
-add-t12 c = record { fits = omega (arith, c .pre .0 .2) }
+add-next : tie.Need-add-next
+add-next c = record { fits = omega (arith, c .pre .0 .2) }
 
 touched-requires : tie.Need-touched-requires
 touched-requires c κs = c .pre .0 .1
@@ -31,7 +31,7 @@ pub begun-spec : {M : Type 1} → statement M
 begun-spec =
     tie.close
     (tie.spec
-    add-t12
+    add-next
     touched-requires
     begun-records-requires
     begun-items-requires
