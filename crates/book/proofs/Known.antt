@@ -6,11 +6,13 @@ use lib.ListN.{length, length-map}
 use mir.Val.{Val}
 use Rattle.conditions.specs.Places.{places}
 use Rattle.book.specs.declared.Book.{Book}
+use Rattle.book.specs.declared.tables.Tables.{Tables}
 use Rattle.book.specs.Book.{mostDistricts, mostItems}
 use Rattle.book.proofs.Record as TRecord
 use Rattle.book.proofs.Item as TItem
 use Rattle.book.proofs.Open as TOpen
 use Rattle.book.proofs.Book as TBook
+use Rattle.book.proofs.tables.Tables as TTables
 
 -- b is a value that code holds
 pub record Held (b : Book) : Type 0 where
@@ -25,3 +27,11 @@ items-long {b} h = sym (length-map (b .items) (TItem.the-field .into)) ∙ h .ow
 
 pub open-long : {b : Book} → Held b → length (b .«open») ≡ places
 open-long {b} h = sym (length-map (b .«open») (TOpen.the-field .into)) ∙ h .own .1 .1 .1 .1 .1 .1 .1 .0 .1 .0 .1
+
+-- t is such a value
+pub record HeldTables (t : Tables) : Type 0 where
+  pub values : List Val
+  pub own : shadow (TTables.the-field .row .own (TTables.the-field .into t) values)
+
+pub places-long : {t : Tables} → HeldTables t → length (t .«open») ≡ places
+places-long {t} h = sym (length-map (t .«open») (TOpen.the-field .into)) ∙ h .own .1 .1 .1 .1 .1 .0 .1 .0 .1

@@ -12,5 +12,6 @@ mod Doing
 mod Filling
 mod Making
 mod Showing
+mod Needed
 mod Working
 mod Beginning

@@ -2,9 +2,9 @@
 use mathlib.Core.Path.{_≡_, refl, sym, ap, ap₂, _∙_}
 use mathlib.Core.Bool.{Bool, true, false, not, _&&_, cond}
 use mathlib.Core.List.{List}
-use Prim.Native.Nat.{ℕ, _<_}
+use Prim.Native.Nat.{ℕ, _≤_, _<_}
 use native.Mathlib.Omega.{arith}
-use borrow.Author.Tests.{le-leb}
+use borrow.Author.Tests.{le-leb, lt-ltb, le-ltb, leb-true, not-false}
 use lib.Dec.{leb}
 use lib.ListN.{getD}
 use lib.Seq.{take-all}
@@ -14,12 +14,13 @@ use Rattle.polyvalues.specs.Operations.{same}
 use Rattle.polyvalues.proofs.Known.{Held, pairs-long}
 use Rattle.conditions.specs.Below.{first}
 use Rattle.conditions.specs.Places.{places}
+use Rattle.conditions.proofs.Laws.Below.{and-left, and-right}
 use Rattle.book.specs.declared.Record.{Record}
 use Rattle.book.specs.declared.Item.{Item}
 use Rattle.book.specs.declared.Open.{Open}
 use Rattle.book.specs.declared.Book.{Book}
-use Rattle.book.specs.Book.{lastNumber, noRecord, noOpen, recordOn, itemOn, named, placeOf}
-use Rattle.book.specs.SoundTest.{implies, soundPending}
+use Rattle.book.specs.Book.{mostDistricts, mostItems, lastNumber, noRecord, noItem, noOpen, recordOn, itemAt, itemOn, named, placeOf}
+use Rattle.book.specs.SoundTest.{implies, sameItem, soundPending, soundRow, soundItem}
 
 -- ---- all rows
 
@@ -64,3 +65,19 @@ pending-in b x e f g = sym (g ∙ ap (λ (n : ℕ). soundPending places b n x) (
 
 pub number-last : {n : ℕ} → n < 65536 → leb n lastNumber ≡ true
 number-last {n} h = le-leb n lastNumber (omega arith)
+
+-- ---- a row of the items, below the count or past it
+
+pub item-row : (w : ℕ) (b : Book) {i : ℕ} → i < b .count → soundItem w b i ≡ soundRow w b (itemAt b i)
+unfolding soundItem
+item-row w b h = rw (lt-ltb _ _ h)
+
+pub item-past : (w : ℕ) (b : Book) {i : ℕ} → b .count ≤ i → soundItem w b i ≡ sameItem (itemAt b i) noItem
+unfolding soundItem
+item-past w b h = rw (le-ltb _ _ h)
+
+-- the counts are sound: there are not too many districts and items
+pub few-rows : (d n : ℕ) {r : Bool} → r ≡ (leb 1 d && leb d mostDistricts && leb 1 n && leb n mostItems) → not r ≡ false → (d ≤ mostDistricts) × (n ≤ mostItems)
+few-rows d n {r} e f =
+    let fit = sym e ∙ not-false r f in
+    (leb-true d mostDistricts (and-right (leb 1 d) _ (and-left _ (leb 1 n) (and-left _ (leb n mostItems) fit))), leb-true n mostItems (and-right (leb 1 d && leb d mostDistricts && leb 1 n) _ fit))

@@ -13,6 +13,7 @@ pub mod Openings
 pub mod Begin
 pub mod States
 pub mod Alternatives
+pub mod Tables
 pub mod Ready
 pub mod GiveUp
 pub mod Decide

@@ -1,30 +1,34 @@
 // Forgetting, at the end of each accepted event.
 ghost use mathlib.Core.Path.{_≡_};
-ghost use Prim.Native.Nat.{_≤_};
+ghost use Prim.Native.Nat.{_<_, _≤_};
 ghost use Rattle.conditions.specs.Places.{places as Places·places};
+ghost use Rattle.book.specs.declared.Book.{Book};
 ghost use Rattle.book.specs.Book.{mostDistricts, mostItems};
+ghost use Rattle.book.specs.Rows.{rows};
 ghost use Rattle.book.specs.Forget.{remembered, forget};
+ghost use Rattle.book.specs.Tables.{TablesOf};
 use crate::Book;
 use crate::Open;
-use crate::tables::some_depends;
+use crate::sets::has;
+use crate::tables::Tables;
+use crate::tables::places_of;
 use crate::tables::some_on;
 use conditions::PLACES;
-use conditions::Place;
 use conditions::TransactionNumber;
 
 // What a place holds afterwards: a decided transaction that nothing needs is closed.
-fn remembered(b: Book, q: usize, o: Open) -> Open
-    requires { ⌜ (b .districts ≤ mostDistricts) × (b .count ≤ mostItems) ⌝ }
-    ensures { λ r. ⌜ r ≡ remembered Places·places b q o ⌝ }
+fn remembered(t: Tables, q: usize, o: Open) -> Open
+    requires { ⌜ (t .districts ≤ mostDistricts) × (q < Places·places) ⌝ }
+    ensures { λ r. ⌜ ((b : Book) → TablesOf Places·places b t → r ≡ remembered Places·places b q o) ⌝ }
 {
     if o.decision == 0 {
         return o;
     }
-    let records = b.records;
-    if some_on(records, b.districts, o.number.0) {
+    let records = t.records;
+    if some_on(records, t.districts, o.number.0) {
         return o;
     }
-    if some_depends(b, Place(q)) {
+    if has(t.needed, q) {
         return o;
     }
     Open {
@@ -36,19 +40,46 @@ fn remembered(b: Book, q: usize, o: Open) -> Open
     }
 }
 
+// Each place so.
+fn remembered_places(t: Tables) -> [Open; PLACES]
+    requires { ⌜ t .districts ≤ mostDistricts ⌝ }
+    ensures { λ r. ⌜ ((b : Book) → TablesOf Places·places b t → r ≡ rows (remembered Places·places b) Places·places (t .«open»)) ⌝ }
+{
+    let mut places = t.open;
+    let mut q: usize = 0;
+    while q < PLACES {
+        let o = places[q];
+        let kept = remembered(t, q, o);
+        places[q] = kept;
+        q += 1;
+    }
+    places
+}
+
 // The book with each such place freed.
 pub(crate) fn forget(b: Book) -> Book
     requires { ⌜ (b .districts ≤ mostDistricts) × (b .count ≤ mostItems) ⌝ }
     ensures { λ r. ⌜ r ≡ forget Places·places b ⌝ }
 {
-    let mut places = b.open;
-    let mut q: usize = 0;
-    while q < PLACES {
-        let o = places[q];
-        let kept = remembered(b, q, o);
-        places[q] = kept;
-        q += 1;
+    let count = b.count;
+    let mut needed: u8 = 0;
+    let mut i: usize = 0;
+    while i < count {
+        let x = b.items[i];
+        needed = needed | places_of(x);
+        i += 1;
     }
+    let last = b.last;
+    let districts = b.districts;
+    let records = b.records;
+    let open = b.open;
+    let places = remembered_places(Tables {
+        last,
+        districts,
+        records,
+        open,
+        needed,
+    });
     let mut after = b;
     after.open = places;
     after

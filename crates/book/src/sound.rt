@@ -1,8 +1,8 @@
 // Whether a book that is handed in is sound: the paragraph of document 01, row by row.
 ghost use mathlib.Core.Path.{_≡_};
-ghost use mathlib.Core.Bool.{not, cond};
+ghost use mathlib.Core.Bool.{not, _&&_, cond};
 ghost use Prim.Native.Nat.{ℕ, _<_, _≤_, _^_};
-ghost use lib.Dec.{eqb, ltb};
+ghost use lib.Dec.{eqb, leb, ltb};
 ghost use lib.ListN.{getD};
 ghost use Rattle.conditions.specs.Below.{all};
 ghost use Rattle.conditions.specs.Sets.{member};
@@ -10,6 +10,7 @@ ghost use Rattle.conditions.specs.Places.{places as Places·places};
 ghost use Rattle.book.specs.declared.Book.{Book};
 ghost use Rattle.book.specs.Book.{mostDistricts, mostItems, noItem, noOpen};
 ghost use Rattle.book.specs.Forget.{decided, needed};
+ghost use Rattle.book.specs.Tables.{TablesOf};
 ghost use Rattle.book.specs.SoundTest.{
   implies,
   samePolyvalue,
@@ -21,7 +22,6 @@ ghost use Rattle.book.specs.SoundTest.{
   soundDistrict,
   soundPending,
   soundRow,
-  soundItem,
   soundAt,
   soundOpen,
   soundPlace,
@@ -35,10 +35,11 @@ use crate::maker::zero_item;
 use crate::sets::has;
 use crate::tables::DISTRICTS;
 use crate::tables::ITEMS;
+use crate::tables::Tables;
 use crate::tables::district_on;
 use crate::tables::item_depends;
 use crate::tables::place_of;
-use crate::tables::some_depends;
+use crate::tables::places_of;
 use crate::tables::some_on;
 use conditions::PLACES;
 use conditions::Place;
@@ -157,14 +158,14 @@ fn sound_district(places: [Open; PLACES], districts: usize, d: usize, x: Record)
 }
 
 // Whether each of them is.
-fn sound_districts(b: Book) -> bool
-    ensures { λ r. ⌜ r ≡ all mostDistricts (soundDistrict Places·places b) ⌝ }
+fn sound_districts(t: Tables) -> bool
+    ensures { λ r. ⌜ ((b : Book) → TablesOf Places·places b t → r ≡ all mostDistricts (soundDistrict Places·places b)) ⌝ }
 {
-    let places = b.open;
+    let places = t.open;
     let mut d: usize = 0;
     while d < DISTRICTS {
-        let x = b.records[d];
-        if !sound_district(places, b.districts, d, x) {
+        let x = t.records[d];
+        if !sound_district(places, t.districts, d, x) {
             return false;
         }
         d += 1;
@@ -208,39 +209,6 @@ fn sound_row(
         return false;
     }
     x.held.together(x.pending) <= PAIRS
-}
-
-// Whether a row of the items is sound, below the count or past it.
-fn sound_item(
-    records: [Record; DISTRICTS],
-    places: [Open; PLACES],
-    districts: usize,
-    used: bool,
-    x: Item,
-) -> bool
-    ensures { λ r. ⌜ ((b : Book) → b .records ≡ records → b .«open» ≡ places → b .districts ≡ districts → r ≡ cond used (soundRow Places·places b x) (sameItem x noItem)) ⌝ }
-{
-    if used {
-        return sound_row(records, places, districts, x);
-    }
-    same_item(x, zero_item())
-}
-
-// Whether each of them is.
-fn sound_items(b: Book) -> bool
-    ensures { λ r. ⌜ r ≡ all mostItems (soundItem Places·places b) ⌝ }
-{
-    let records = b.records;
-    let places = b.open;
-    let mut i: usize = 0;
-    while i < ITEMS {
-        let x = b.items[i];
-        if !sound_item(records, places, b.districts, i < b.count, x) {
-            return false;
-        }
-        i += 1;
-    }
-    true
 }
 
 // Whether ready and gave-up are apart and within touched, and a completed transaction has the
@@ -293,26 +261,26 @@ fn number_differs(places: [Open; PLACES], q: usize, n: TransactionNumber) -> boo
 }
 
 // Whether the transaction is not decided, or has a district on it or a polyvalue that depends on it.
-fn sound_decided(b: Book, q: Place, o: Open) -> bool
-    requires { ⌜ (b .districts ≤ mostDistricts) × (b .count ≤ mostItems) ⌝ }
-    ensures { λ r. ⌜ r ≡ implies (decided o) (needed Places·places b (q .0) o) ⌝ }
+fn sound_decided(t: Tables, q: usize, o: Open) -> bool
+    requires { ⌜ (t .districts ≤ mostDistricts) × (q < Places·places) ⌝ }
+    ensures { λ r. ⌜ ((b : Book) → TablesOf Places·places b t → r ≡ implies (decided o) (needed Places·places b q o)) ⌝ }
 {
     if o.decision == 0 {
         return true;
     }
-    let records = b.records;
-    if some_on(records, b.districts, o.number.0) {
+    let records = t.records;
+    if some_on(records, t.districts, o.number.0) {
         return true;
     }
-    some_depends(b, q)
+    has(t.needed, q)
 }
 
 // Whether the open transaction at a place is sound.
-fn sound_open(b: Book, q: usize, o: Open) -> bool
-    requires { ⌜ (b .districts ≤ mostDistricts) × (b .count ≤ mostItems) × (q ≤ Places·places) ⌝ }
-    ensures { λ r. ⌜ r ≡ soundOpen Places·places b q o ⌝ }
+fn sound_open(t: Tables, q: usize, o: Open) -> bool
+    requires { ⌜ (t .districts ≤ mostDistricts) × (q < Places·places) ⌝ }
+    ensures { λ r. ⌜ ((b : Book) → TablesOf Places·places b t → r ≡ soundOpen Places·places b q o) ⌝ }
 {
-    let districts = b.districts;
+    let districts = t.districts;
     if !is_within(o.touched, districts) {
         return false;
     }
@@ -325,42 +293,42 @@ fn sound_open(b: Book, q: usize, o: Open) -> bool
     if 2 < o.decision {
         return false;
     }
-    let places = b.open;
+    let places = t.open;
     if !number_differs(places, q, o.number) {
         return false;
     }
-    if b.last.0 < o.number.0 {
+    if t.last.0 < o.number.0 {
         return false;
     }
-    if !sound_decided(b, Place(q), o) {
+    if !sound_decided(t, q, o) {
         return false;
     }
     sound_sets(o, districts)
 }
 
 // Whether a place is sound.
-fn sound_place(b: Book, q: usize) -> bool
-    requires { ⌜ (b .districts ≤ mostDistricts) × (b .count ≤ mostItems) × (q < Places·places) ⌝ }
-    ensures { λ r. ⌜ r ≡ soundPlace Places·places b q ⌝ }
+fn sound_place(t: Tables, q: usize) -> bool
+    requires { ⌜ (t .districts ≤ mostDistricts) × (q < Places·places) ⌝ }
+    ensures { λ r. ⌜ ((b : Book) → TablesOf Places·places b t → r ≡ soundPlace Places·places b q) ⌝ }
 {
-    let o = b.open[q];
+    let o = t.open[q];
     if o.number.0 != 0 {
-        return sound_open(b, q, o);
+        return sound_open(t, q, o);
     }
     if !zero_open(o) {
         return false;
     }
-    !some_depends(b, Place(q))
+    !has(t.needed, q)
 }
 
 // Whether each of them is.
-fn sound_places(b: Book) -> bool
-    requires { ⌜ (b .districts ≤ mostDistricts) × (b .count ≤ mostItems) ⌝ }
-    ensures { λ r. ⌜ r ≡ all Places·places (soundPlace Places·places b) ⌝ }
+fn sound_places(t: Tables) -> bool
+    requires { ⌜ t .districts ≤ mostDistricts ⌝ }
+    ensures { λ r. ⌜ ((b : Book) → TablesOf Places·places b t → r ≡ all Places·places (soundPlace Places·places b)) ⌝ }
 {
     let mut q: usize = 0;
     while q < PLACES {
-        if !sound_place(b, q) {
+        if !sound_place(t, q) {
             return false;
         }
         q += 1;
@@ -368,29 +336,63 @@ fn sound_places(b: Book) -> bool
     true
 }
 
+// Whether a book has as many districts and items as it may have.
+fn sound_counts(districts: usize, count: usize) -> bool
+    ensures { λ r. ⌜ r ≡ (leb 1 districts && leb districts mostDistricts && leb 1 count && leb count mostItems) ⌝ }
+{
+    if districts < 1 {
+        return false;
+    }
+    if DISTRICTS < districts {
+        return false;
+    }
+    if count < 1 {
+        return false;
+    }
+    count <= ITEMS
+}
+
 impl Book {
-    // Whether the book is sound: the counts, then every row.
+    // Whether the book is sound: the counts, then every row. It walks the items itself, since a book
+    // that is handed on is copied.
     pub fn is_sound(self) -> bool
         ensures { λ r. ⌜ r ≡ sound Places·places self ⌝ }
     {
-        if self.districts < 1 {
+        let count = self.count;
+        let districts = self.districts;
+        if !sound_counts(districts, count) {
             return false;
         }
-        if DISTRICTS < self.districts {
+        let records = self.records;
+        let open = self.open;
+        let mut needed: u8 = 0;
+        let mut i: usize = 0;
+        while i < count {
+            let x = self.items[i];
+            if !sound_row(records, open, districts, x) {
+                return false;
+            }
+            needed = needed | places_of(x);
+            i += 1;
+        }
+        while i < ITEMS {
+            let x = self.items[i];
+            if !same_item(x, zero_item()) {
+                return false;
+            }
+            i += 1;
+        }
+        let last = self.last;
+        let t = Tables {
+            last,
+            districts,
+            records,
+            open,
+            needed,
+        };
+        if !sound_districts(t) {
             return false;
         }
-        if self.count < 1 {
-            return false;
-        }
-        if ITEMS < self.count {
-            return false;
-        }
-        if !sound_districts(self) {
-            return false;
-        }
-        if !sound_items(self) {
-            return false;
-        }
-        sound_places(self)
+        sound_places(t)
     }
 }

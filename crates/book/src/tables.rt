@@ -1,26 +1,25 @@
 // What one reads off the tables of a book.
 ghost use mathlib.Core.Path.{_≡_};
 ghost use mathlib.Core.Bool.{not};
-ghost use Prim.Native.Nat.{_≤_};
+ghost use Prim.Native.Nat.{suc, _<_, _≤_};
 ghost use lib.Dec.{eqb};
 ghost use lib.ListN.{getD};
 ghost use Rattle.conditions.specs.Below.{any, first};
 ghost use Rattle.conditions.specs.Places.{places as Places·places};
+ghost use Rattle.conditions.specs.Sets.{setOf};
 ghost use Rattle.book.specs.Book.{
   mostDistricts,
-  mostItems,
   noRecord,
   noOpen,
   recordOn,
   isOpen,
   named,
   itemDepends,
-  someDepends,
 };
-use crate::Book;
 use crate::Item;
 use crate::Open;
 use crate::Record;
+use crate::sets::including;
 use conditions::PLACES;
 use conditions::Place;
 use conditions::TransactionNumber;
@@ -29,6 +28,16 @@ use conditions::TransactionNumber;
 pub const DISTRICTS: usize = 8;
 
 pub const ITEMS: usize = 32;
+
+// All of a book but its items, and the set of the places that these depend on: what the tests of a
+// place and forgetting ask of a book, without its 9 KB.
+pub struct Tables {
+    pub last: TransactionNumber,
+    pub districts: usize,
+    pub records: [Record; DISTRICTS],
+    pub open: [Open; PLACES],
+    pub needed: u8,
+}
 
 // The number of the transaction that a district with this record is on, 0 where it is idle.
 pub(crate) fn record_on(r: Record) -> u16
@@ -118,18 +127,26 @@ pub(crate) fn item_depends(x: Item, q: Place) -> bool
     x.pending.depends(q)
 }
 
-// Whether an item of the book does.
-pub(crate) fn some_depends(b: Book, q: Place) -> bool
-    requires { ⌜ b .count ≤ mostItems ⌝ }
-    ensures { λ r. ⌜ r ≡ someDepends Places·places b (q .0) ⌝ }
+// The set and the place, if the item depends on it.
+fn with_place(set: u8, x: Item, q: usize) -> u8
+    requires { ⌜ (q < Places·places) × (set ≡ setOf q (itemDepends Places·places x)) ⌝ }
+    ensures { λ r. ⌜ r ≡ setOf (suc q) (itemDepends Places·places x) ⌝ }
 {
-    let mut i: usize = 0;
-    while i < b.count {
-        let x = b.items[i];
-        if item_depends(x, q) {
-            return true;
-        }
-        i += 1;
+    if item_depends(x, Place(q)) {
+        return including(set, q);
     }
-    false
+    set
+}
+
+// The set of the places that the item depends on.
+pub(crate) fn places_of(x: Item) -> u8
+    ensures { λ r. ⌜ r ≡ setOf Places·places (itemDepends Places·places x) ⌝ }
+{
+    let mut set: u8 = 0;
+    let mut q: usize = 0;
+    while q < PLACES {
+        set = with_place(set, x, q);
+        q += 1;
+    }
+    set
 }

@@ -1,60 +1,53 @@
--- The loop's invariant: the places before q are as they are to be.
+-- The loop's invariant: the places that the items before i depend on.
 use mathlib.Core.Path.{_≡_, refl, ap}
+use mathlib.Core.List.{List}
 use Prim.Native.Nat.{_≤_, _-_}
 use native.Mathlib.Omega.{arith}
 use borrow.Author.Needs.{needs}
 use Rattle.conditions.specs.Places.{places as width}
-use Rattle.book.specs.Rows.{rowsFrom, rows}
-use Rattle.book.specs.Book.{noOpen, withOpen}
-use Rattle.book.specs.Forget.{remembered, forget}
 use Rattle.book.specs.declared.Open.{Open}
-use mathlib.Core.List.{List}
-use Rattle.book.proofs.Known.{Held, open-long}
-use Rattle.book.proofs.Loops.{turn}
+use Rattle.book.specs.Book.{withOpen}
+use Rattle.book.specs.Forget.{forget}
+use Rattle.book.proofs.Needed.{NeededBy, none-needed, needed-more, all-needed}
 use Rattle.book.proofs.forget.forget.Statement.{statement}
 use Rattle.book.proofs.forget.forget.Tie as tie
 
 abbrev Inv-loop : tie.InvT-loop
-Inv-loop b places₀ q₀ places q = (q ≤ width) × (places ≡ rows (remembered width b) q places₀)
+Inv-loop b count needed₀ i₀ needed i = (i ≤ count) × NeededBy width b i needed
 
 abbrev μ-loop : tie.MeasureT-loop
-μ-loop b places₀ q₀ places q = width - q
+μ-loop b count needed₀ i₀ needed i = count - i
 
 loop-holds : tie.Need-loop-holds Inv-loop μ-loop
-unfolding rowsFrom
-loop-holds c = (omega arith, refl)
+loop-holds c = (omega arith, none-needed width (c .args .t1))
 
-mul-o : tie.Need-mul-o Inv-loop μ-loop
-mul-o c = search needs
+mul-x : tie.Need-mul-x Inv-loop μ-loop
+mul-x c = record { fits = omega (arith, c .before .before .pre .1) }
 
-array-copy-out-o : tie.Need-array-copy-out-o Inv-loop μ-loop
-array-copy-out-o c = omega arith
+element-copy-out-x : tie.Need-element-copy-out-x Inv-loop μ-loop
+element-copy-out-x c = omega (arith, c .before .before .pre .1)
 
-remembered-requires : tie.Need-remembered-requires Inv-loop μ-loop
-remembered-requires c κs = c .before .before .before .before .pre
+places-of-requires : tie.Need-places-of-requires Inv-loop μ-loop
+places-of-requires c κs = search needs
 
-mul-places : tie.Need-mul-places Inv-loop μ-loop
-mul-places c = search needs
-
-array-set-from-places : tie.Need-array-set-from-places Inv-loop μ-loop
-array-set-from-places c = omega arith
-
-add-q : tie.Need-add-q Inv-loop μ-loop
-add-q c = search needs
+add-i : tie.Need-add-i Inv-loop μ-loop
+add-i c = search needs
 
 loop-less : tie.Need-loop-less Inv-loop μ-loop
 loop-less c = omega arith
 
 loop-again : tie.Need-loop-again Inv-loop μ-loop
-loop-again c =
-    let held : Held (c .before .before .before .before .before .args .b) = record { values = _; own = c .before .before .before .before .before .good .0 } in
-    (omega arith, turn (remembered width (c .before .before .before .before .before .args .b)) noOpen (c .before .before .before .loop .q) (c .before .before .before .before .before .args .b .«open») (c .before .before .before .loop .places) (c .remembered .result) (omega (arith, open-long held)) (c .before .before .before .loop .inv .1) (c .remembered .ensures))
+loop-again c = (omega arith, needed-more width (c .before .before .before .before .args .t1) (c .before .before .before .loop .i) (c .before .before .before .loop .needed) (c .before .before .before .loop .inv .1) (c .places-of .ensures))
+
+remembered-places-requires : tie.Need-remembered-places-requires Inv-loop μ-loop
+remembered-places-requires c κs = c .before .before .before .before .before .pre .0
 
 returns : tie.Need-returns Inv-loop μ-loop
 unfolding forget
 returns c =
-    let last : c .before .loop .q ≡ width = omega (arith, c .before .loop .inv .0) in
-    ap (λ (l : List Open). withOpen (c .before .before .before .args .b) l) (rw last at (c .before .loop .inv .1))
+    let last : c .before .before .before .before .before .loop .i ≡ c .before .before .before .before .before .before .args .t1 .count = omega (arith, c .before .before .before .before .before .loop .inv .0) in
+    let needed = all-needed width (c .before .before .before .before .before .before .args .t1) (c .before .before .before .before .before .loop .needed) last (c .before .before .before .before .before .loop .inv .1) in
+    ap (λ (l : List Open). withOpen (c .before .before .before .before .before .before .args .t1) l) (c .remembered-places .ensures (c .before .before .before .before .before .before .args .t1) (record { last = refl; districts = refl; records = refl; places = refl; needed = needed }))
 
 pub forget-spec : {M : Type 1} → statement M
 forget-spec =
@@ -63,12 +56,11 @@ forget-spec =
     Inv-loop
     μ-loop
     loop-holds
-    mul-o
-    array-copy-out-o
-    remembered-requires
-    mul-places
-    array-set-from-places
-    add-q
+    mul-x
+    element-copy-out-x
+    places-of-requires
+    add-i
     loop-less
     loop-again
+    remembered-places-requires
     returns)

@@ -9,31 +9,33 @@ use Rattle.book.proofs.sound.sound_place.Statement.{statement}
 use Rattle.book.proofs.sound.sound_place.Tie as tie
 
 mul-o : tie.Need-mul-o
-mul-o c = record { fits = omega (arith, c .pre .2) }
+mul-o c = record { fits = omega (arith, c .pre .1) }
 
 element-copy-out-o : tie.Need-element-copy-out-o
-element-copy-out-o c = c .pre .2
+element-copy-out-o c = c .pre .1
 
 sound-open-requires : tie.Need-sound-open-requires
-sound-open-requires c κs = (c .before .before .before .pre .0, c .before .before .before .pre .1, omega (arith, c .before .before .before .pre .2))
+sound-open-requires c κs = search needs
 
 returns : tie.Need-returns
 unfolding soundPlace
-returns c = c .sound-open .ensures ∙ rw (ne-eqb _ _ (c .before .if1 .taken))
+returns c b o = c .sound-open .ensures b o ∙ rw (o .places, ne-eqb _ _ (c .before .if1 .taken))
 
 zero-open-requires : tie.Need-zero-open-requires
 zero-open-requires c κs = search needs
 
 returns-2 : tie.Need-returns-2
 unfolding soundPlace
-returns-2 c = rw (eq-eqb _ _ (c .before .before .if1 .left), sym (c .before .zero-open .ensures) ∙ not-true _ (c .if2 .taken))
+returns-2 c b o = rw (o .places, eq-eqb _ _ (c .before .before .if1 .left), sym (c .before .zero-open .ensures) ∙ not-true _ (c .if2 .taken))
 
-some-depends-requires : tie.Need-some-depends-requires
-some-depends-requires c κs = c .before .before .before .before .before .pre .1
+has-requires : tie.Need-has-requires
+has-requires c κs = search needs
 
 returns-3 : tie.Need-returns-3
 unfolding soundPlace
-returns-3 c = ap not (c .some-depends .ensures) ∙ rw (eq-eqb _ _ (c .before .before .before .if1 .left), sym (c .before .before .zero-open .ensures) ∙ not-false _ (c .before .if2 .left))
+returns-3 c b o =
+    ap not (c .has .ensures ∙ o .needed (c .before .before .before .before .before .before .args .q) (c .before .before .before .before .before .before .pre .1))
+    ∙ rw (o .places, eq-eqb _ _ (c .before .before .before .if1 .left), sym (c .before .before .zero-open .ensures) ∙ not-false _ (c .before .if2 .left))
 
 pub sound-place-spec : {M : Type 1} → statement M
 sound-place-spec =
@@ -45,5 +47,5 @@ sound-place-spec =
     returns
     zero-open-requires
     returns-2
-    some-depends-requires
+    has-requires
     returns-3)

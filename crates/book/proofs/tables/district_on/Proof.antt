@@ -1,9 +1,8 @@
 -- A district past the last row is on none.
 use borrow.Author.Needs.{needs}
-use mathlib.Core.Path.{_≡_, sym, ap, _∙_}
+use mathlib.Core.Path.{_≡_, sym, ap}
 use native.Mathlib.Omega.{arith}
 use lib.ListN.{length, List·getD-eq-default}
-use Rattle.book.specs.declared.Record.{Record}
 use Rattle.book.specs.Book.{mostDistricts, noRecord, recordOn}
 use Rattle.book.proofs.tables.district_on.Statement.{statement}
 use Rattle.book.proofs.tables.district_on.Tie as tie

@@ -1,5 +1,4 @@
 -- A free place has no number.
-use mathlib.Core.Path.{sym}
 use borrow.Author.Tests.{eq-eqb, ne-eqb}
 use Rattle.book.proofs.tables.is_named.Statement.{statement}
 use Rattle.book.proofs.tables.is_named.Tie as tie
