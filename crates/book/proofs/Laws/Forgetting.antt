@@ -49,6 +49,10 @@ module _ (w : ℕ) (b : Book) (s : SoundBut w b) (t : Shaped w b) where
   still q (stays e n) k = (e, n)
   still q (freed e n) k = absurd (false≢true (rw e at k))
 
+  -- what is open afterwards is as it was
+  pub forget-open : (q : ℕ) → q < w → isOpen (openAt (forget w b) q) ≡ true → openAt (forget w b) q ≡ openAt b q
+  forget-open q h k = still q (fate q h) k .0
+
   gone : (q : ℕ) → Fate q → q < w → isOpen (openAt c q) ≡ false → (openAt c q ≡ noOpen) × ((i : ℕ) → i < b .count → itemDepends w (itemAt b i) q ≡ false)
   unfolding needed someDepends
   gone q (stays e n) h k = let f : isOpen (openAt b q) ≡ false = rw e at k in (e ∙ s .free q h f, s .freeUnused q h f)

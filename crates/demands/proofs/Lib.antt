@@ -1,0 +1,5 @@
+mod Tables
+mod Assignments
+mod Ledger
+mod Marking
+mod Guesses
