@@ -119,7 +119,7 @@ pub record Marks (past : List Said) (districts : ℕ) (o : Open) : Type 0 where
   pub ready : (d : ℕ) → d < districts → wasReady past (o .number .0) d ≡ member (o .ready) d
   pub gave : wasGivenUp past (o .number .0) ≡ true → (d : ℕ) × (d < districts) × (member (o .gave) d ≡ true)
 
-same-marks : (past now : List Said) (districts : ℕ) (o : Open) → Same past now (o .number .0) → Marks past districts o → Marks now districts o
+pub same-marks : (past now : List Said) (districts : ℕ) (o : Open) → Same past now (o .number .0) → Marks past districts o → Marks now districts o
 same-marks past now districts o s m = record {
   completed = s .completed ∙ m .completed;
   aborted = s .aborted ∙ m .aborted;
@@ -134,7 +134,7 @@ pub record Unmarked (past : List Said) (n : ℕ) : Type 0 where
   pub ready : (d : ℕ) → wasReady past n d ≡ false
   pub gave : wasGivenUp past n ≡ false
 
-same-unmarked : (past now : List Said) (n : ℕ) → Same past now n → Unmarked past n → Unmarked now n
+pub same-unmarked : (past now : List Said) (n : ℕ) → Same past now n → Unmarked past n → Unmarked now n
 same-unmarked past now n s u = record {
   completed = s .completed ∙ u .completed;
   aborted = s .aborted ∙ u .aborted;
