@@ -1,5 +1,8 @@
 mod Tables
+mod Items
 mod Assignments
 mod Ledger
 mod Marking
 mod Guesses
+mod Choosing
+mod Beginning
