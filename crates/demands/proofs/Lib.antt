@@ -6,3 +6,4 @@ mod Marking
 mod Guesses
 mod Choosing
 mod Beginning
+mod Invariant
