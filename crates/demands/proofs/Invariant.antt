@@ -69,7 +69,7 @@ serial-refused g s past x e = rw e
 
 module _ (w : ℕ) (s₀ : ℕ → ℤ) where
   -- under every guess, what counts is the serial run's
-  pub Main : Book → List Said → Type 0
+  abbrev pub Main : Book → List Said → Type 0
   Main b past = (g : ℕ → Bool) → Guess past g → (a : ℕ) → Says w b g a → (i : ℕ) → i < b .count → chosenAt b g a i ≡ serial g s₀ past i
 
   pub record Inv (b : Book) (past : List Said) : Type 0 where
@@ -81,7 +81,6 @@ module _ (w : ℕ) (s₀ : ℕ → ℤ) where
 
 quiet-inv : (w : ℕ) (s₀ : ℕ → ℤ) (b : Book) (past : List Said) (x : Said) → ((n : ℕ) → Same past (x ∷ past) n) → begun (x ∷ past) ≡ begun past
     → ((g : ℕ → Bool) → serial g s₀ (x ∷ past) ≡ serial g s₀ past) → Inv w s₀ b past → Inv w s₀ b (x ∷ past)
-unfolding Main
 quiet-inv w s₀ b past x same count runs v = record {
   whole = v .whole;
   ledger = quiet-ledger w b past x same count (v .ledger);
@@ -96,7 +95,6 @@ module _ (w : ℕ) (s₀ : ℕ → ℤ) (b : Book) (past : List Said) (v : Inv w
       → ((q : ℕ) → q < w → isOpen (openAt c q) ≡ true → isOpen (openAt b q) ≡ true → openAt c q .number ≡ openAt b q .number)
       → ((g : ℕ → Bool) → Guess now g → (a : ℕ) → Says w b g a → (i : ℕ) → i < b .count → chosenAt c g a i ≡ serial g s₀ now i)
       → Main w s₀ c now
-  unfolding Main
   main-after c now whole count same after g legal other says i h =
       let found = saying-both w b c g same other says in
       let a = found .0 in
@@ -109,7 +107,6 @@ module _ (w : ℕ) (s₀ : ℕ → ℤ) (b : Book) (past : List Said) (v : Inv w
       → ((m : ℕ) → wasGivenUp past m ≡ true → wasCompleted past m ≡ false → wasCompleted (x ∷ past) m ≡ false)
       → ((g : ℕ → Bool) → Guess past g → Guess (x ∷ past) g → (a : ℕ) → Says w b g a → (i : ℕ) → i < b .count → chosenAt c g a i ≡ chosenAt b g a i)
       → Inv w s₀ c (x ∷ past)
-  unfolding Main
   acts-inv c n o x act none ledger late keeps = record {
     whole = act .after;
     ledger = ledger;
@@ -129,7 +126,7 @@ module _ (w : ℕ) (s₀ : ℕ → ℤ) (b : Book) (past : List Said) (v : Inv w
   notLate x e m k c = ever-not past x (asksComplete m) (rw (e m) (and-false (accepted (x .answer)))) ∙ c
 
   begins-inv : (bytes : List ℕ) → accepted (begin w b bytes .answer) ≡ true → Inv w s₀ (begin w b bytes .book) (said w b (begins bytes) ∷ past)
-  unfolding Main serial
+  unfolding serial
   begins-inv bytes e = record {
     whole = begin-after w b t bytes e;
     ledger = begin-ledger w b t past (v .ledger) bytes e;

@@ -7,3 +7,5 @@ mod Guesses
 mod Choosing
 mod Beginning
 mod Invariant
+mod Opening
+pub mod Demand3
