@@ -5,7 +5,7 @@ use mathlib.Core.List.{List}
 use Prim.Native.Nat.{ℕ, zero, suc, _^_, _≤_, _<_}
 use native.Mathlib.Omega.{arith}
 use lib.Dec.{eqb, ltb}
-use borrow.Author.Tests.{eq-eqb, ne-eqb, eqb-true, eqb-false, ltb-true, ltb-false, lt-ltb, le-ltb}
+use borrow.Author.Tests.{eqb-true, eqb-false, ltb-true, ltb-false, lt-ltb, le-ltb}
 use Rattle.conditions.specs.Sets.{member, setOf}
 use Rattle.conditions.specs.Places.{withPlace}
 use Rattle.conditions.proofs.Laws.Below.{by-cases}
@@ -16,7 +16,6 @@ use Rattle.polyvalues.specs.Pairs.{at, depends}
 use Rattle.polyvalues.specs.Polyvalues.{inUse}
 use Rattle.polyvalues.proofs.Laws.Depends.{at-free}
 use Rattle.book.specs.declared.Book.{Book}
-use Rattle.book.specs.declared.Open.{Open}
 use Rattle.book.specs.Book.{itemAt, openAt, isOpen}
 use Rattle.book.specs.Begin.{heldAt}
 use Rattle.book.specs.Sound.{Sound}
@@ -109,11 +108,14 @@ pub saying-both : (w : ℕ) (b c : Book) (g : ℕ → Bool)
     → ((q : ℕ) → q < w → isOpen (openAt c q) ≡ true → isOpen (openAt b q) ≡ true → openAt c q .number ≡ openAt b q .number)
     → (other : ℕ) → Says w c g other → (a : ℕ) × (Says w b g a) × (Says w c g a)
 saying-both w b c g same other s =
-    let found = saying w b g other in
-    (found .0, found .1, record {
-      assignment = found .1 .assignment;
-      places = λ q h e.
-          by-cases (isOpen (openAt b q))
-          (λ o. rw (same q h e o) (found .1 .places q h o))
-          (λ o. found .2 q h o ∙ s .places q h e);
-    })
+    let found = saying w b g other in (
+      found .0,
+      found .1,
+      record {
+        assignment = found .1 .assignment;
+        places = λ q h e.
+            by-cases (isOpen (openAt b q))
+            (λ o. rw (same q h e o) (found .1 .places q h o))
+            (λ o. found .2 q h o ∙ s .places q h e);
+      },
+    )

@@ -1,6 +1,6 @@
 -- Begin, where what counts of every item is its value after a serial run: afterwards it is that after one program more.
-use mathlib.Core.Path.{_≡_, refl, sym, _∙_, ap}
-use mathlib.Core.Bool.{Bool, true, false, cond, true≢false}
+use mathlib.Core.Path.{_≡_, sym, _∙_, ap}
+use mathlib.Core.Bool.{Bool, true, false, cond}
 use mathlib.Core.List.{List}
 use Prim.Native.Nat.{ℕ, suc, _<_}
 use lib.IntN.{ℤ}
@@ -9,10 +9,9 @@ use Rattle.polyvalues.specs.declared.polyvalue.Polyvalue.{Polyvalue}
 use Rattle.polyvalues.specs.Pairs.{at}
 use Rattle.polyvalues.specs.Polyvalues.{inUse}
 use Rattle.book.specs.declared.Book.{Book}
-use Rattle.book.specs.declared.Item.{Item}
 use Rattle.book.specs.declared.Step.{Step}
 use Rattle.book.specs.Answers.{accepted}
-use Rattle.book.specs.Book.{itemAt, recordAt, recordOn, itemOn}
+use Rattle.book.specs.Book.{itemAt, itemOn}
 use Rattle.book.specs.Programs.{steps, run, touches}
 use Rattle.book.specs.Sound.{Sound}
 use Rattle.book.specs.Begin.{heldAt, touchesDistrict, begin}

@@ -1,8 +1,8 @@
 -- What counts of an item under a guess: its pending value if the transaction that it is on is guessed complete, else its held value. Every call but begin leaves it as it was.
-use mathlib.Core.Path.{_≡_, refl, sym, _∙_, ap}
+use mathlib.Core.Path.{_≡_, sym, _∙_, ap}
 use mathlib.Core.Bool.{Bool, true, false, cond, true≢false}
 use mathlib.Core.List.{List, _∷_}
-use Prim.Native.Nat.{ℕ, suc, _^_, _<_}
+use Prim.Native.Nat.{ℕ, _<_}
 use native.Mathlib.Omega.{arith}
 use lib.Dec.{eqb}
 use lib.IntN.{ℤ}
@@ -15,15 +15,13 @@ use Rattle.polyvalues.specs.Pairs.{at}
 use Rattle.polyvalues.specs.Polyvalues.{inUse}
 use Rattle.book.specs.declared.Book.{Book}
 use Rattle.book.specs.declared.Item.{Item}
-use Rattle.book.specs.declared.Open.{Open}
-use Rattle.book.specs.declared.Record.{Record}
 use Rattle.book.specs.Answers.{accepted}
-use Rattle.book.specs.Book.{recordAt, itemAt, openAt, itemOn, placeOf}
+use Rattle.book.specs.Book.{recordAt, itemAt, itemOn, placeOf}
 use Rattle.book.specs.Records.{computingOn, busyOn}
 use Rattle.book.specs.Items.{there}
 use Rattle.book.specs.Transactions.{openOf}
-use Rattle.book.specs.Sound.{Sound, itsOpen}
-use Rattle.book.specs.Begin.{heldAt, begin}
+use Rattle.book.specs.Sound.{itsOpen}
+use Rattle.book.specs.Begin.{heldAt}
 use Rattle.book.specs.Ready.{ready}
 use Rattle.book.specs.GiveUp.{giveUp}
 use Rattle.book.specs.Decide.{complete, abort}
@@ -34,11 +32,11 @@ use Rattle.book.proofs.Laws.But.{place-open, computing-on, busy-is}
 use Rattle.book.proofs.Laws.Events.{ready-keeps, complete-keeps, abort-keeps, give-up-values, hear-values}
 use Rattle.book.proofs.Laws.Calls.{GivesUp, Hears}
 use Rattle.demands.specs.Calls.{givesUp}
-use Rattle.demands.specs.Past.{Said, said, asksComplete, wasCompleted, wasAborted, wasGivenUp, Guess}
+use Rattle.demands.specs.Past.{Said, said, asksComplete, wasCompleted, wasAborted, Guess}
 use Rattle.demands.specs.Demands.{pendingAt, Says}
 use Rattle.demands.proofs.Tables.{give-up-facts, hear-facts, give-up-acts}
 use Rattle.demands.proofs.Items.{ready-on, complete-on, abort-on, give-up-on, busy-item, hear-on}
-use Rattle.demands.proofs.Ledger.{ever-now, Marks, Ledger, row-number, row-marks}
+use Rattle.demands.proofs.Ledger.{ever-now, Ledger, row-number, row-marks}
 use Rattle.demands.proofs.Marking.{give-up-marked, hear-row, hear-number}
 
 -- what counts

@@ -1,7 +1,7 @@
 -- Demand 3.
 use mathlib.Core.Path.{_≡_, refl, sym, _∙_, ap}
-use mathlib.Core.Bool.{Bool, true, false, cond, false≢true}
-use mathlib.Core.List.{List, []}
+use mathlib.Core.Bool.{Bool, true, false, false≢true}
+use mathlib.Core.List.{List}
 use Prim.Native.Nat.{ℕ, suc, _<_}
 use lib.IntN.{ℤ}
 use lib.ListN.{length}
@@ -11,7 +11,7 @@ use Rattle.book.specs.declared.Book.{Book}
 use Rattle.book.specs.declared.Item.{Item}
 use Rattle.book.specs.declared.Opening.{Opening}
 use Rattle.book.specs.Answers.{accepted}
-use Rattle.book.specs.Book.{recordAt, itemAt, idle, recordOn, itemOn}
+use Rattle.book.specs.Book.{itemAt, idle, itemOn}
 use Rattle.book.specs.Sound.{Sound}
 use Rattle.book.specs.Open.{goodOpening, opened}
 use Rattle.book.proofs.Laws.Sound.{on-none}
@@ -21,14 +21,14 @@ use Rattle.book.proofs.Laws.Events.{ready-keeps, complete-keeps, abort-keeps}
 use Rattle.book.proofs.Laws.Calls.{Whole}
 use Rattle.demands.specs.Calls.{Call, begins, readies, givesUp, completes, aborts, hears, shows, answerTo, numberGiven, bookAfter, History, nothing, _then_, bookOf}
 use Rattle.demands.specs.Past.{Said, asksBegin, begun, Guess, serial, pastOf}
-use Rattle.demands.specs.Demands.{openingOf, districtOf, pendingAt, Says, Right, Serially, Demand3}
-use Rattle.demands.proofs.Tables.{Acts, ready-acts, give-up-acts, complete-acts, abort-acts, hear-acts, begin-count, begin-number}
+use Rattle.demands.specs.Demands.{openingOf, districtOf, Says, Right, Serially, Demand3}
+use Rattle.demands.proofs.Tables.{ready-acts, give-up-acts, complete-acts, abort-acts, hear-acts, begin-count, begin-number}
 use Rattle.demands.proofs.Items.{give-up-district, hear-district, begin-district}
 use Rattle.demands.proofs.Assignments.{saying}
 use Rattle.demands.proofs.Guesses.{cautious}
 use Rattle.demands.proofs.Choosing.{chosenAt}
 use Rattle.demands.proofs.Beginning.{chosen-idle}
-use Rattle.demands.proofs.Invariant.{refused-book, Main, Inv, call-inv}
+use Rattle.demands.proofs.Invariant.{refused-book, Inv, call-inv}
 use Rattle.demands.proofs.Opening.{opened-count, opened-district, opened-inv}
 
 -- ---- the items are those that were opened

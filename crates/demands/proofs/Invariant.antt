@@ -5,14 +5,12 @@ use mathlib.Core.List.{List, _∷_}
 use Prim.Native.Nat.{ℕ, suc, _<_}
 use lib.Dec.{eqb}
 use lib.IntN.{ℤ}
-use borrow.Author.Tests.{eqb-true, ne-eqb, eqb-false}
+use borrow.Author.Tests.{eqb-true}
 use Rattle.conditions.proofs.Laws.Below.{by-cases}
-use Rattle.book.specs.declared.Answer.{Answer}
 use Rattle.book.specs.declared.Book.{Book}
-use Rattle.book.specs.declared.Item.{Item}
 use Rattle.book.specs.declared.Open.{Open}
 use Rattle.book.specs.Answers.{accepted}
-use Rattle.book.specs.Book.{itemAt, openAt, isOpen, placeOf, freePlace}
+use Rattle.book.specs.Book.{openAt, isOpen, placeOf, freePlace}
 use Rattle.book.specs.Transactions.{done}
 use Rattle.book.specs.Begin.{begin}
 use Rattle.book.specs.Ready.{readyAnswer, readied, ready}
@@ -21,13 +19,11 @@ use Rattle.book.specs.Decide.{completeAnswer, abortAnswer, decide, complete, ab
 use Rattle.book.specs.Hear.{hearAnswer, heard, hear}
 use Rattle.book.proofs.Laws.Shaped.{Shaped}
 use Rattle.book.proofs.Laws.BeginSound.{free-place}
-use Rattle.book.proofs.Laws.Events.{ready-keeps, complete-keeps, abort-keeps}
 use Rattle.book.proofs.Laws.Calls.{Whole, done-refused, begin-refused}
 use Rattle.demands.specs.Calls.{Call, begins, readies, givesUp, completes, aborts, hears, shows, answerTo, bookAfter}
-use Rattle.demands.specs.Past.{Said, said, asksBegin, asksComplete, ever, wasCompleted, wasGivenUp, begun, Guess, runs, serial}
-use Rattle.demands.specs.Demands.{pendingAt, Says}
+use Rattle.demands.specs.Past.{Said, said, asksBegin, asksComplete, wasCompleted, wasGivenUp, begun, Guess, runs, serial}
+use Rattle.demands.specs.Demands.{Says}
 use Rattle.demands.proofs.Tables.{Acts, ready-acts, give-up-acts, complete-acts, abort-acts, hear-acts, begin-facts, begin-after, begin-number, begin-count, begin-places}
-use Rattle.demands.proofs.Items.{give-up-district, hear-district, begin-district}
 use Rattle.demands.proofs.Assignments.{held-agree, pending-agree, saying-both}
 use Rattle.demands.proofs.Ledger.{ever-not, Same, refused-same, silent-same, Ledger, quiet-ledger}
 use Rattle.demands.proofs.Marking.{ready-ledger, give-up-ledger, complete-ledger, complete-kept, abort-ledger, hear-ledger, begin-ledger}

@@ -1,6 +1,6 @@
 -- No call moves an item to another district; and what transaction an item is on after each call.
-use mathlib.Core.Path.{_≡_, refl, sym, _∙_, ap}
-use mathlib.Core.Bool.{Bool, true, false, cond}
+use mathlib.Core.Path.{_≡_, sym, _∙_, ap}
+use mathlib.Core.Bool.{true, false, cond}
 use mathlib.Core.List.{List}
 use Prim.Native.Nat.{ℕ, suc, _<_}
 use lib.Dec.{eqb}
@@ -9,10 +9,10 @@ use Rattle.conditions.proofs.Laws.Below.{by-cases}
 use Rattle.book.specs.declared.Book.{Book}
 use Rattle.book.specs.declared.Item.{Item}
 use Rattle.book.specs.Answers.{accepted}
-use Rattle.book.specs.Book.{recordAt, itemAt, recordOn, itemOn, placeOf}
+use Rattle.book.specs.Book.{recordAt, itemAt, recordOn, itemOn}
 use Rattle.book.specs.Programs.{steps, touches}
 use Rattle.book.specs.Records.{computingOn, busyOn, hearRecord}
-use Rattle.book.specs.Items.{there, concerned, install, drop, split, reduceItem}
+use Rattle.book.specs.Items.{there, concerned, split, reduceItem}
 use Rattle.book.specs.Transactions.{openOf, done}
 use Rattle.book.specs.Begin.{touchesDistrict, beginItem, begun, begin}
 use Rattle.book.specs.Ready.{ready}

@@ -1,24 +1,22 @@
 -- What the book keeps of an open transaction, its ready set, its gave-up set and its decision, is what the calls and their answers say of its number.
-use mathlib.Core.Path.{_≡_, refl, sym, _∙_, ap}
-use mathlib.Core.Bool.{Bool, true, false, not, _&&_, _||_, cond, and-false, true≢false, false≢true}
+use mathlib.Core.Path.{_≡_, refl, sym, _∙_}
+use mathlib.Core.Bool.{Bool, true, false, _&&_, _||_, and-false}
 use mathlib.Core.List.{List, _∷_}
-use Prim.Native.Nat.{ℕ, suc, _≤_, _<_}
+use Prim.Native.Nat.{ℕ, _≤_, _<_}
 use native.Mathlib.Omega.{arith}
 use lib.Dec.{eqb, ltb}
-use borrow.Author.Tests.{eq-eqb, ne-eqb, eqb-true, eqb-false, ltb-true, ltb-false}
+use borrow.Author.Tests.{eqb-true, eqb-false, ltb-true, ltb-false}
 use Rattle.conditions.specs.Sets.{member}
-use Rattle.conditions.proofs.Laws.Below.{and-left, and-right, by-cases}
-use Rattle.conditions.proofs.Laws.Sets.{member-none}
+use Rattle.conditions.proofs.Laws.Below.{by-cases}
 use Rattle.book.specs.declared.Book.{Book}
 use Rattle.book.specs.declared.Open.{Open}
 use Rattle.book.specs.Answers.{accepted}
 use Rattle.book.specs.Book.{openAt, isOpen, placeOf}
 use Rattle.book.specs.Transactions.{openOf}
-use Rattle.book.specs.Sound.{Sound}
 use Rattle.book.proofs.Laws.Sound.{place-named}
 use Rattle.book.proofs.Laws.But.{place-open}
 use Rattle.demands.specs.Calls.{Call, begins, readies, givesUp, completes, aborts, hears, shows}
-use Rattle.demands.specs.Past.{Said, asksBegin, asksReady, asksComplete, asksAbort, ever, wasReady, wasCompleted, wasAborted, givesUpEarly, wasGivenUp, begun, Guess}
+use Rattle.demands.specs.Past.{Said, asksBegin, asksReady, asksComplete, asksAbort, ever, wasReady, wasCompleted, wasAborted, givesUpEarly, wasGivenUp, begun}
 use Rattle.demands.proofs.Tables.{Acts}
 
 -- ---- one call more

@@ -9,3 +9,6 @@ mod Beginning
 mod Invariant
 mod Opening
 pub mod Demand3
+pub mod Demand1
+pub mod Demand2
+pub mod Examples

@@ -1,6 +1,6 @@
 -- Each call keeps what the book says of its open transactions with what the calls and their answers say.
 use mathlib.Core.Path.{_≡_, refl, sym, _∙_, ap}
-use mathlib.Core.Bool.{Bool, true, false, not, _&&_, _||_, cond, true≢false, false≢true}
+use mathlib.Core.Bool.{true, false, not, _&&_, _||_, cond, true≢false}
 use mathlib.Core.List.{List, _∷_}
 use Prim.Native.Nat.{ℕ, suc, _<_}
 use native.Mathlib.Omega.{arith}
@@ -17,7 +17,7 @@ use Rattle.book.specs.Book.{mostDistricts, recordAt, openAt, isOpen, placeOf, f
 use Rattle.book.specs.Records.{computingOn, waitingOn, busyOn}
 use Rattle.book.specs.Forget.{decided}
 use Rattle.book.specs.Transactions.{openOf}
-use Rattle.book.specs.Sound.{Sound, itsOpen}
+use Rattle.book.specs.Sound.{itsOpen}
 use Rattle.book.specs.Begin.{begin}
 use Rattle.book.specs.Ready.{reported, ready}
 use Rattle.book.specs.GiveUp.{marked, giveUp}
@@ -26,12 +26,11 @@ use Rattle.book.specs.Hear.{hear}
 use Rattle.book.proofs.Laws.Shaped.{Shaped}
 use Rattle.book.proofs.Laws.Including.{including-own, member-including}
 use Rattle.book.proofs.Laws.But.{place-open, computing-on, busy-is}
-use Rattle.book.proofs.Laws.BeginSound.{free-place}
 use Rattle.book.proofs.Laws.Calls.{GivesUp}
-use Rattle.demands.specs.Calls.{Call, begins, readies, givesUp, completes, aborts, hears, shows, answerTo}
-use Rattle.demands.specs.Past.{Said, said, asksReady, asksComplete, asksAbort, ever, wasReady, wasCompleted, wasAborted, givesUpEarly, wasGivenUp, begun}
-use Rattle.demands.proofs.Tables.{Acts, ready-facts, ready-acts, give-up-facts, give-up-acts, complete-facts, complete-acts, abort-facts, abort-acts, hear-facts, hear-acts, begin-facts, begin-last, begin-districts, begin-row, begin-places}
-use Rattle.demands.proofs.Ledger.{ever-not, ever-now, given-up-not, given-up-now, speaksOf, silent-same, Same, Marks, same-marks, same-unmarked, Ledger, row-number, row-marks, acts-ledger}
+use Rattle.demands.specs.Calls.{Call, begins, readies, givesUp, completes, aborts, hears}
+use Rattle.demands.specs.Past.{Said, said, asksReady, asksComplete, asksAbort, wasReady, wasCompleted, wasAborted, wasGivenUp, begun}
+use Rattle.demands.proofs.Tables.{ready-facts, ready-acts, give-up-facts, give-up-acts, complete-facts, complete-acts, abort-facts, abort-acts, hear-acts, begin-last, begin-districts, begin-row, begin-places}
+use Rattle.demands.proofs.Ledger.{ever-now, given-up-now, silent-same, Same, Marks, same-marks, same-unmarked, Ledger, row-number, row-marks, acts-ledger}
 
 -- a record that is busy and not computing waits
 waiting-on : (n : ℕ) (r : Record) → busyOn n r ≡ true → computingOn n r ≡ false → r .phase ≡ 2

@@ -1,6 +1,6 @@
 -- An opened book: each item has its opening value under every assignment, no transaction is open, and there is no past. So the invariant holds from the start.
 use mathlib.Core.Path.{_≡_, refl, sym, _∙_, ap}
-use mathlib.Core.Bool.{Bool, true, false, false≢true}
+use mathlib.Core.Bool.{true, false, false≢true}
 use mathlib.Core.List.{List, [], _∷_, _++_, map}
 use Prim.Native.Nat.{ℕ, zero, suc, _^_, _<_}
 use native.Mathlib.Omega.{arith}
@@ -11,7 +11,6 @@ use Rattle.polyvalues.specs.Pairs.{at, certain}
 use Rattle.polyvalues.specs.Polyvalues.{inUse, packed}
 use Rattle.polyvalues.proofs.Laws.Canon.{at-canon, certain-canon}
 use Rattle.polyvalues.proofs.Laws.Packed.{inUse-packed}
-use Rattle.book.specs.declared.Book.{Book}
 use Rattle.book.specs.declared.Item.{Item}
 use Rattle.book.specs.declared.Opening.{Opening}
 use Rattle.book.specs.Book.{noOpen, itemAt, openAt, isOpen}
@@ -21,7 +20,7 @@ use Rattle.demands.specs.Past.{ever, wasGivenUp, begun, serial}
 use Rattle.demands.specs.Demands.{openingOf}
 use Rattle.demands.proofs.Ledger.{Ledger}
 use Rattle.demands.proofs.Choosing.{chosen-one}
-use Rattle.demands.proofs.Invariant.{Main, Inv}
+use Rattle.demands.proofs.Invariant.{Inv}
 
 map-at : {A B : Type 0} (f : A → B) (xs : List A) (more : List B) (i : ℕ) (d : A) (e : B) → i < length xs → getD (map f xs ++ more) i e ≡ f (getD xs i d)
 map-at f [] more i d e h = absurd (omega arith)

@@ -1,6 +1,6 @@
 -- For each call, what an accepted one makes of the districts' records and of the places.
 use mathlib.Core.Path.{_≡_, refl, _∙_, ap}
-use mathlib.Core.Bool.{Bool, true, cond}
+use mathlib.Core.Bool.{true, cond}
 use mathlib.Core.List.{List}
 use Prim.Native.Nat.{ℕ, suc, _<_}
 use native.Mathlib.Omega.{arith}
@@ -8,7 +8,6 @@ use lib.Dec.{eqb}
 use borrow.Author.Tests.{eqb-true}
 use Rattle.conditions.specs.Sets.{setOf}
 use Rattle.conditions.proofs.Laws.Below.{by-cases}
-use Rattle.book.specs.declared.Answer.{Answer}
 use Rattle.book.specs.declared.Book.{Book}
 use Rattle.book.specs.declared.Open.{Open}
 use Rattle.conditions.specs.declared.place.TransactionNumber.{TransactionNumber}
