@@ -34,9 +34,9 @@ use Rattle.book.proofs.Laws.Calls.{GivesUp, Hears}
 use Rattle.demands.specs.Calls.{givesUp}
 use Rattle.demands.specs.Past.{Said, said, asksComplete, wasCompleted, wasAborted, Guess}
 use Rattle.demands.specs.Demands.{pendingAt, Says}
-use Rattle.demands.proofs.Tables.{give-up-facts, hear-facts, give-up-acts}
+use Rattle.demands.proofs.Tables.{acts-number, give-up-facts, hear-facts, give-up-acts}
 use Rattle.demands.proofs.Items.{ready-on, complete-on, abort-on, give-up-on, busy-item, hear-on}
-use Rattle.demands.proofs.Ledger.{ever-now, Ledger, row-number, row-marks}
+use Rattle.demands.proofs.Ledger.{ever-now, Ledger, row-marks}
 use Rattle.demands.proofs.Marking.{give-up-marked, hear-row, hear-number}
 
 -- what counts
@@ -83,7 +83,7 @@ module _ (w : ℕ) (b : Book) (t : Shaped w b) (g : ℕ → Bool) (a : ℕ) (s :
       notCompleted : computingOn n (recordAt b d) ≡ true → wasCompleted (said w b (givesUp n d) ∷ past) n ≡ true → ⊥
       notCompleted k z =
           let o = openOf w b n in
-          let number = row-number w b _ past l n _ (give-up-acts w b t n d e) in
+          let number = acts-number w b _ n _ (give-up-acts w b t n d e) in
           let marks = row-marks w b _ past l n _ (give-up-acts w b t n d e) in
           let its : itsOpen w b (recordAt b d) ≡ o = ap (openOf w b) (busy-is n (recordAt b d) (facts .on) .1) in
           let one : o .decision ≡ 1 = eqb-true (o .decision) 1 (sym (marks .completed) ∙ ap (wasCompleted past) number ∙ sym (ever-now past (said w b (givesUp n d)) (asksComplete n) e) ∙ z) in

@@ -4,8 +4,8 @@ use mathlib.Core.Bool.{Bool, true, false, _&&_, _||_, and-false}
 use mathlib.Core.List.{List, _∷_}
 use Prim.Native.Nat.{ℕ, _≤_, _<_}
 use native.Mathlib.Omega.{arith}
-use lib.Dec.{eqb, ltb}
-use borrow.Author.Tests.{eqb-true, eqb-false, ltb-true, ltb-false}
+use lib.Dec.{eqb}
+use borrow.Author.Tests.{eqb-true, eqb-false}
 use Rattle.conditions.specs.Sets.{member}
 use Rattle.conditions.proofs.Laws.Below.{by-cases}
 use Rattle.book.specs.declared.Book.{Book}
@@ -13,11 +13,10 @@ use Rattle.book.specs.declared.Open.{Open}
 use Rattle.book.specs.Answers.{accepted}
 use Rattle.book.specs.Book.{openAt, isOpen, placeOf}
 use Rattle.book.specs.Transactions.{openOf}
-use Rattle.book.proofs.Laws.Sound.{place-named}
 use Rattle.book.proofs.Laws.But.{place-open}
 use Rattle.demands.specs.Calls.{Call, begins, readies, givesUp, completes, aborts, hears, shows}
 use Rattle.demands.specs.Past.{Said, asksBegin, asksReady, asksComplete, asksAbort, ever, wasReady, wasCompleted, wasAborted, givesUpEarly, wasGivenUp, begun}
-use Rattle.demands.proofs.Tables.{Acts}
+use Rattle.demands.proofs.Tables.{Acts, acts-number, acts-other}
 
 -- ---- one call more
 
@@ -162,22 +161,11 @@ module _ (w : ℕ) (b c : Book) (past : List Said) (l : Ledger w b past) (n : �
   q = placeOf w b n
 
   -- its row as it was
-  pub row-number : openOf w b n .number .0 ≡ n
-  row-number = place-named w b n (act .place) .0
-
   pub row-marks : Marks past (b .districts) (openOf w b n)
   row-marks = l .marks q (act .place) (place-open w b n (act .place))
 
   given : n ≤ b .last .0
-  given = omega (arith, row-number, act .before .given q (act .place) (place-open w b n (act .place)))
-
-  -- another open transaction has another number
-  other : (p : ℕ) → p < w → isOpen (openAt b p) ≡ true → eqb p q ≡ false → n ≡ openAt b p .number .0 → ⊥
-  other p h k apart same =
-      let differ : p ≡ q → ⊥ = eqb-false p q apart in
-      by-cases (ltb p q)
-      (λ t. act .before .differ q (act .place) (place-open w b n (act .place)) p (ltb-true p q t) (sym same ∙ sym row-number))
-      (λ t. act .before .differ p h k q (omega (arith, ltb-false p q t)) (row-number ∙ same))
+  given = omega (arith, acts-number w b c n o act, act .before .given q (act .place) (place-open w b n (act .place)))
 
   module _ (x : Said) (silence : (m : ℕ) → (n ≡ m → ⊥) → speaksOf m (x .call) ≡ false) (noBegin : asksBegin (x .call) ≡ false)
       (marks : Marks (x ∷ past) (b .districts) o) (notBoth : wasCompleted (x ∷ past) n ≡ true → wasAborted (x ∷ past) n ≡ false) where
@@ -194,7 +182,7 @@ module _ (w : ℕ) (b c : Book) (past : List Said) (l : Ledger w b past) (n : �
           (λ e.
           let stays : openAt c p ≡ openAt b p = row ∙ rw e in
           let k′ : isOpen (openAt b p) ≡ true = rw stays at k in
-          rw (stays, act .districts) (same-marks past (x ∷ past) (b .districts) (openAt b p) (elsewhere _ (other p h k′ e)) (l .marks p h k′)));
+          rw (stays, act .districts) (same-marks past (x ∷ past) (b .districts) (openAt b p) (elsewhere _ (acts-other w b c n o act p h k′ e)) (l .marks p h k′)));
       fresh = λ m h. let h′ : b .last .0 < m = rw (act .last) at h in same-unmarked past (x ∷ past) m (elsewhere m (λ e. omega (arith, given))) (l .fresh m h′);
       once = λ m e. by-cases (eqb n m)
           (λ t. let same : n ≡ m = eqb-true n m t in rw (← same) (notBoth (rw (← same) at e)))

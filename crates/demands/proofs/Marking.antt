@@ -29,8 +29,8 @@ use Rattle.book.proofs.Laws.But.{place-open, computing-on, busy-is}
 use Rattle.book.proofs.Laws.Calls.{GivesUp}
 use Rattle.demands.specs.Calls.{Call, begins, readies, givesUp, completes, aborts, hears}
 use Rattle.demands.specs.Past.{Said, said, asksReady, asksComplete, asksAbort, wasReady, wasCompleted, wasAborted, wasGivenUp, begun}
-use Rattle.demands.proofs.Tables.{ready-facts, ready-acts, give-up-facts, give-up-acts, complete-facts, complete-acts, abort-facts, abort-acts, hear-acts, begin-last, begin-districts, begin-row, begin-places}
-use Rattle.demands.proofs.Ledger.{ever-now, given-up-now, silent-same, Same, Marks, same-marks, same-unmarked, Ledger, row-number, row-marks, acts-ledger}
+use Rattle.demands.proofs.Tables.{acts-number, ready-facts, ready-acts, give-up-facts, give-up-acts, complete-facts, complete-acts, abort-facts, abort-acts, hear-acts, begin-last, begin-districts, begin-row, begin-places}
+use Rattle.demands.proofs.Ledger.{ever-now, given-up-now, silent-same, Same, Marks, same-marks, same-unmarked, Ledger, row-marks, acts-ledger}
 
 -- a record that is busy and not computing waits
 waiting-on : (n : ℕ) (r : Record) → busyOn n r ≡ true → computingOn n r ≡ false → r .phase ≡ 2
@@ -52,7 +52,7 @@ module _ (w : ℕ) (b : Book) (t : Shaped w b) (past : List Said) (l : Ledger w 
     readyRow = row-marks w b _ past l n _ (ready-acts w b t n d e)
 
     readyNumber : openOf w b n .number .0 ≡ n
-    readyNumber = row-number w b _ past l n _ (ready-acts w b t n d e)
+    readyNumber = acts-number w b _ n _ (ready-acts w b t n d e)
 
     readyMarks : Marks (now (readies n d)) (b .districts) (reported d (openOf w b n))
     readyMarks = record {
@@ -88,7 +88,7 @@ module _ (w : ℕ) (b : Book) (t : Shaped w b) (past : List Said) (l : Ledger w 
     giveUpRow = row-marks w b _ past l n _ (give-up-acts w b t n d e)
 
     giveUpNumber : openOf w b n .number .0 ≡ n
-    giveUpNumber = row-number w b _ past l n _ (give-up-acts w b t n d e)
+    giveUpNumber = acts-number w b _ n _ (give-up-acts w b t n d e)
 
     facts : GivesUp w b n d
     facts = give-up-facts w b t n d e
@@ -147,7 +147,7 @@ module _ (w : ℕ) (b : Book) (t : Shaped w b) (past : List Said) (l : Ledger w 
     completeRow = row-marks w b _ past l n _ (complete-acts w b t n e)
 
     completeNumber : openOf w b n .number .0 ≡ n
-    completeNumber = row-number w b _ past l n _ (complete-acts w b t n e)
+    completeNumber = acts-number w b _ n _ (complete-acts w b t n e)
 
     notAborted : wasAborted (now (completes n)) (openOf w b n .number .0) ≡ false
     notAborted =
@@ -185,7 +185,7 @@ module _ (w : ℕ) (b : Book) (t : Shaped w b) (past : List Said) (l : Ledger w 
     abortRow = row-marks w b _ past l n _ (abort-acts w b t n e)
 
     abortNumber : openOf w b n .number .0 ≡ n
-    abortNumber = row-number w b _ past l n _ (abort-acts w b t n e)
+    abortNumber = acts-number w b _ n _ (abort-acts w b t n e)
 
     notCompleted : wasCompleted (now (aborts n)) (openOf w b n .number .0) ≡ false
     notCompleted =
@@ -212,7 +212,7 @@ module _ (w : ℕ) (b : Book) (t : Shaped w b) (past : List Said) (l : Ledger w 
     hear-row = row-marks w b _ past l n _ (hear-acts w b t n d e)
 
     pub hear-number : openOf w b n .number .0 ≡ n
-    hear-number = row-number w b _ past l n _ (hear-acts w b t n d e)
+    hear-number = acts-number w b _ n _ (hear-acts w b t n d e)
 
     hearMarks : Marks (now (hears n d)) (b .districts) (openOf w b n)
     hearMarks = record {

@@ -1,7 +1,7 @@
 -- The customer's three demands, and the marked examples of document 01, as statements. Their proofs stand in ../proofs: whoever reads this file, and the definitions that it
 -- names, has read what is proved. All of it holds for any number w of places; that of the code is `places`, in crate conditions.
 use mathlib.Core.Path.{_≡_}
-use mathlib.Core.Bool.{Bool, true, false, not, _&&_, cond}
+use mathlib.Core.Bool.{Bool, true, false, not, _&&_, _||_, cond}
 use mathlib.Core.List.{List, [], _∷_, _++_, map}
 use Prim.Native.Nat.{ℕ, suc, _^_, _<_}
 use lib.Dec.{eqb}
@@ -20,9 +20,10 @@ use Rattle.book.specs.declared.Book.{Book}
 use Rattle.book.specs.declared.Opening.{Opening}
 use Rattle.book.specs.declared.Record.{Record}
 use Rattle.book.specs.Answers.{answerNumber, accepted, firstOf}
-use Rattle.book.specs.Book.{noRecord, noBook, recordAt, itemAt, openAt, idle, isOpen, placeOf}
+use Rattle.book.specs.Book.{noRecord, noBook, recordAt, itemAt, openAt, idle, isOpen, placeOf, someDepends, someOn}
 use Rattle.book.specs.Programs.{steps, run, touches}
 use Rattle.book.specs.Records.{computingOn, busyOn, beginRecord, readyRecord, hearRecord}
+use Rattle.book.specs.Forget.{decided}
 use Rattle.book.specs.Transactions.{openOf}
 use Rattle.book.specs.Open.{goodOpening, opened}
 use Rattle.book.specs.SoundTest.{sound}
@@ -33,7 +34,7 @@ use Rattle.book.specs.Examples.{Example1, Example2, Example3, Example4, Example
 use Rattle.book.proofs.Laws.Shaped.{Shaped}
 use Rattle.book.proofs.Laws.Calls.{Whole}
 use Rattle.demands.specs.Calls.{Call, begins, readies, givesUp, completes, aborts, hears, shows, answerTo, numberGiven, bookAfter, History, bookOf}
-use Rattle.demands.specs.Past.{Said, pastOf, asksBegin, begun, Guess, serial}
+use Rattle.demands.specs.Past.{Said, pastOf, asksBegin, asksComplete, asksAbort, begun, Guess, serial}
 
 -- ==== Demand 1
 
@@ -120,6 +121,10 @@ heardAt w b n d old a i =
 abbrev pub isIn : Book → ℕ → ℕ → Bool
 isIn b d i = eqb (itemAt b i .district) d
 
+-- the transaction at place q is decided, before the call c or by it
+abbrev pub isDecided : Book → Call → ℕ → Bool
+isDecided b c q = decided (openAt b q) || (asksComplete (openAt b q .number .0) c || asksAbort (openAt b q .number .0) c)
+
 pub record Demand2 (w : ℕ) : Type 0 where
   -- "equal values joined, no empty condition, conditions complete and disjoint": in every sound book
   pub held : (b : Book) → Whole w b → (i : ℕ) → i < b .count → WellFormed w (inUse (itemAt b i .held))
@@ -147,6 +152,9 @@ pub record Demand2 (w : ℕ) : Type 0 where
   pub hearing : (n d : ℕ) → Accepts w (λ b after. EachValue w b (λ a i.
       Values after a i (cond (isIn b d i) (heardAt w b n d (heldAt b) a i) (heldAt b a i)) (cond (isIn b d i) (heardAt w b n d (pendingAt b) a i) (pendingAt b a i)))) (hears n d)
   pub hearingRecords : (n d : ℕ) → Accepts w (λ b after. Records b after (λ e. cond (eqb e d) (hearRecord n (recordAt b e)) (recordAt b e))) (hears n d)
+  -- "At the end of each accepted event, a decided transaction is closed, and its place freed, exactly when no district is on it and no held or pending polyvalue depends on it."
+  pub forgetting : (c : Call) → Accepts w (λ b after. (q : ℕ) → q < w → isOpen (openAt b q) ≡ true
+      → isOpen (openAt after q) ≡ (not (isDecided b c q) || (someOn after (openAt b q .number .0) || someDepends w after q))) c
   -- "showing"
   pub showing : (b : Book) (i : ℕ) (buf : List ℕ) → accepted (showAnswer w b i buf) ≡ true → shown w b i buf ≡ written buf 0 (heldLine w b i)
 
