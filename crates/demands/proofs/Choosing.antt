@@ -34,7 +34,8 @@ use Rattle.book.proofs.Laws.Calls.{GivesUp, Hears}
 use Rattle.demands.specs.Calls.{givesUp}
 use Rattle.demands.specs.Past.{Said, said, asksComplete, wasCompleted, wasAborted, Guess}
 use Rattle.demands.specs.Demands.{pendingAt, Says}
-use Rattle.demands.proofs.Tables.{acts-number, give-up-facts, hear-facts, give-up-acts}
+use Rattle.demands.proofs.Acts.{acts-number}
+use Rattle.demands.proofs.Tables.{give-up-facts, hear-facts, give-up-acts}
 use Rattle.demands.proofs.Items.{ready-on, complete-on, abort-on, give-up-on, busy-item, hear-on}
 use Rattle.demands.proofs.Ledger.{ever-now, Ledger, row-marks}
 use Rattle.demands.proofs.Marking.{give-up-marked, hear-row, hear-number}

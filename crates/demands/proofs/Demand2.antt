@@ -29,7 +29,8 @@ use Rattle.book.proofs.Laws.Shaped.{Shaped}
 use Rattle.book.proofs.Laws.Events.{begin-values, ready-keeps, give-up-values, complete-keeps, abort-keeps, hear-values}
 use Rattle.demands.specs.Calls.{Call, begins, readies, givesUp, completes, aborts, hears, shows, answerTo, bookAfter}
 use Rattle.demands.specs.Demands.{pendingAt, Values, isDecided, Demand2}
-use Rattle.demands.proofs.Tables.{Acts, acts-number, acts-other, ready-acts, give-up-acts, complete-acts, abort-acts, hear-acts, begin-stays, ready-record, give-up-record, complete-record, abort-record, hear-record, begin-record}
+use Rattle.demands.proofs.Acts.{Acts, acts-number, acts-other}
+use Rattle.demands.proofs.Tables.{ready-acts, give-up-acts, complete-acts, abort-acts, hear-acts, begin-stays, ready-record, give-up-record, complete-record, abort-record, hear-record, begin-record}
 
 -- an item that stays has its values
 stays : (b c : Book) (i : ℕ) → itemAt c i ≡ itemAt b i → (a : ℕ) → Values c a i (heldAt b a i) (pendingAt b a i)

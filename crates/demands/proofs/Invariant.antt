@@ -23,7 +23,8 @@ use Rattle.book.proofs.Laws.Calls.{Whole, done-refused, begin-refused}
 use Rattle.demands.specs.Calls.{Call, begins, readies, givesUp, completes, aborts, hears, shows, answerTo, bookAfter}
 use Rattle.demands.specs.Past.{Said, said, asksBegin, asksComplete, wasCompleted, wasGivenUp, begun, Guess, runs, serial}
 use Rattle.demands.specs.Demands.{Says}
-use Rattle.demands.proofs.Tables.{Acts, ready-acts, give-up-acts, complete-acts, abort-acts, hear-acts, begin-facts, begin-after, begin-number, begin-count, begin-places}
+use Rattle.demands.proofs.Acts.{Acts}
+use Rattle.demands.proofs.Tables.{ready-acts, give-up-acts, complete-acts, abort-acts, hear-acts, begin-facts, begin-after, begin-number, begin-count, begin-places}
 use Rattle.demands.proofs.Assignments.{held-agree, pending-agree, saying-both}
 use Rattle.demands.proofs.Ledger.{ever-not, Same, refused-same, silent-same, Ledger, quiet-ledger}
 use Rattle.demands.proofs.Marking.{ready-ledger, give-up-ledger, complete-ledger, complete-kept, abort-ledger, hear-ledger, begin-ledger}

@@ -1,5 +1,5 @@
 -- What the book keeps of an open transaction, its ready set, its gave-up set and its decision, is what the calls and their answers say of its number.
-use mathlib.Core.Path.{_≡_, refl, sym, _∙_}
+use mathlib.Core.Path.{_≡_, refl, sym, _∙_, ap}
 use mathlib.Core.Bool.{Bool, true, false, _&&_, _||_, and-false}
 use mathlib.Core.List.{List, _∷_}
 use Prim.Native.Nat.{ℕ, _≤_, _<_}
@@ -8,6 +8,7 @@ use lib.Dec.{eqb}
 use borrow.Author.Tests.{eqb-true, eqb-false}
 use Rattle.conditions.specs.Sets.{member}
 use Rattle.conditions.proofs.Laws.Below.{by-cases}
+use Rattle.conditions.specs.declared.place.TransactionNumber.{TransactionNumber}
 use Rattle.book.specs.declared.Book.{Book}
 use Rattle.book.specs.declared.Open.{Open}
 use Rattle.book.specs.Answers.{accepted}
@@ -16,7 +17,7 @@ use Rattle.book.specs.Transactions.{openOf}
 use Rattle.book.proofs.Laws.But.{place-open}
 use Rattle.demands.specs.Calls.{Call, begins, readies, givesUp, completes, aborts, hears, shows}
 use Rattle.demands.specs.Past.{Said, asksBegin, asksReady, asksComplete, asksAbort, ever, wasReady, wasCompleted, wasAborted, givesUpEarly, wasGivenUp, begun}
-use Rattle.demands.proofs.Tables.{Acts, acts-number, acts-other}
+use Rattle.demands.proofs.Acts.{Acts, acts-number, acts-other}
 
 -- ---- one call more
 
@@ -168,9 +169,18 @@ module _ (w : ℕ) (b c : Book) (past : List Said) (l : Ledger w b past) (n : �
   given = omega (arith, acts-number w b c n o act, act .before .given q (act .place) (place-open w b n (act .place)))
 
   module _ (x : Said) (silence : (m : ℕ) → (n ≡ m → ⊥) → speaksOf m (x .call) ≡ false) (noBegin : asksBegin (x .call) ≡ false)
-      (marks : Marks (x ∷ past) (b .districts) o) (notBoth : wasCompleted (x ∷ past) n ≡ true → wasAborted (x ∷ past) n ≡ false) where
+      (marks : Marks (x ∷ past) (b .districts) o) where
     elsewhere : (m : ℕ) → (n ≡ m → ⊥) → Same past (x ∷ past) m
     elsewhere m apart = silent-same past x m (silence m apart)
+
+    number : o .number .0 ≡ n
+    number = ap (λ (m : TransactionNumber). m .0) (act .number) ∙ acts-number w b c n o act
+
+    -- a row has one decision
+    notBoth : wasCompleted (x ∷ past) n ≡ true → wasAborted (x ∷ past) n ≡ false
+    notBoth e =
+        let one : o .decision ≡ 1 = eqb-true (o .decision) 1 (sym (marks .completed) ∙ ap (wasCompleted (x ∷ past)) number ∙ e) in
+        ap (wasAborted (x ∷ past)) (sym number) ∙ marks .aborted ∙ ap (λ (v : ℕ). eqb v 2) one
 
     pub acts-ledger : Ledger w c (x ∷ past)
     unfolding begun

@@ -1,3 +1,4 @@
+mod Acts
 mod Tables
 mod Items
 mod Assignments

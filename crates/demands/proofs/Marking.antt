@@ -29,7 +29,8 @@ use Rattle.book.proofs.Laws.But.{place-open, computing-on, busy-is}
 use Rattle.book.proofs.Laws.Calls.{GivesUp}
 use Rattle.demands.specs.Calls.{Call, begins, readies, givesUp, completes, aborts, hears}
 use Rattle.demands.specs.Past.{Said, said, asksReady, asksComplete, asksAbort, wasReady, wasCompleted, wasAborted, wasGivenUp, begun}
-use Rattle.demands.proofs.Tables.{acts-number, ready-facts, ready-acts, give-up-facts, give-up-acts, complete-facts, complete-acts, abort-facts, abort-acts, hear-acts, begin-last, begin-districts, begin-row, begin-places}
+use Rattle.demands.proofs.Acts.{acts-number}
+use Rattle.demands.proofs.Tables.{ready-facts, ready-acts, give-up-facts, give-up-acts, complete-facts, complete-acts, abort-facts, abort-acts, hear-acts, begin-last, begin-districts, begin-row, begin-places}
 use Rattle.demands.proofs.Ledger.{ever-now, given-up-now, silent-same, Same, Marks, same-marks, same-unmarked, Ledger, row-marks, acts-ledger}
 
 -- a record that is busy and not computing waits
@@ -73,7 +74,6 @@ module _ (w : ℕ) (b : Book) (t : Shaped w b) (past : List Said) (l : Ledger w 
     pub ready-ledger : Ledger w (ready w b n d .book) (now (readies n d))
     ready-ledger =
         acts-ledger w b _ past l n _ (ready-acts w b t n d e) (said w b (readies n d)) (λ m apart. ne-eqb n m apart) refl readyMarks
-        (λ k. ever-now past (said w b (readies n d)) (asksAbort n) e ∙ l .once n (sym (ever-now past (said w b (readies n d)) (asksComplete n) e) ∙ k))
 
   -- ---- give up
 
@@ -138,7 +138,6 @@ module _ (w : ℕ) (b : Book) (t : Shaped w b) (past : List Said) (l : Ledger w 
     pub give-up-ledger : Ledger w (giveUp w b n d .book) (now (givesUp n d))
     give-up-ledger =
         acts-ledger w b _ past l n _ (give-up-acts w b t n d e) (said w b (givesUp n d)) (λ m apart. ne-eqb n m apart) refl giveUpMarks
-        (λ k. ever-now past (said w b (givesUp n d)) (asksAbort n) e ∙ l .once n (sym (ever-now past (said w b (givesUp n d)) (asksComplete n) e) ∙ k))
 
   -- ---- complete
 
@@ -165,7 +164,6 @@ module _ (w : ℕ) (b : Book) (t : Shaped w b) (past : List Said) (l : Ledger w 
     pub complete-ledger : Ledger w (complete w b n .book) (now (completes n))
     complete-ledger =
         acts-ledger w b _ past l n _ (complete-acts w b t n e) (said w b (completes n)) (λ m apart. ne-eqb n m apart) refl completeMarks
-        (λ k. rw completeNumber at notAborted)
 
     -- "complete asked, a touched district has not reported ready": so none gave up before it was
     pub complete-kept : wasGivenUp past n ≡ true → ⊥
@@ -203,7 +201,6 @@ module _ (w : ℕ) (b : Book) (t : Shaped w b) (past : List Said) (l : Ledger w 
     pub abort-ledger : Ledger w (abort w b n .book) (now (aborts n))
     abort-ledger =
         acts-ledger w b _ past l n _ (abort-acts w b t n e) (said w b (aborts n)) (λ m apart. ne-eqb n m apart) refl abortMarks
-        (λ k. absurd (true≢false (sym k ∙ rw abortNumber at notCompleted)))
 
   -- ---- hear
 
@@ -225,7 +222,6 @@ module _ (w : ℕ) (b : Book) (t : Shaped w b) (past : List Said) (l : Ledger w 
     pub hear-ledger : Ledger w (hear w b n d .book) (now (hears n d))
     hear-ledger =
         acts-ledger w b _ past l n _ (hear-acts w b t n d e) (said w b (hears n d)) (λ m apart. refl) refl hearMarks
-        (λ k. ever-now past (said w b (hears n d)) (asksAbort n) e ∙ l .once n (sym (ever-now past (said w b (hears n d)) (asksComplete n) e) ∙ k))
 
   -- ---- begin: the number is new, and nothing is said of it
 

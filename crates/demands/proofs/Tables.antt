@@ -1,21 +1,21 @@
 -- For each call, what an accepted one makes of the districts' records and of the places.
 use mathlib.Core.Path.{_≡_, refl, sym, _∙_, ap}
-use mathlib.Core.Bool.{Bool, true, false, not, _||_, cond, true≢false}
+use mathlib.Core.Bool.{true, not, _||_, cond, true≢false}
 use mathlib.Core.List.{List}
 use Prim.Native.Nat.{ℕ, suc, _<_}
 use native.Mathlib.Omega.{arith}
-use lib.Dec.{eqb, ltb}
-use borrow.Author.Tests.{eqb-true, eqb-false, ltb-true, ltb-false}
+use lib.Dec.{eqb}
+use borrow.Author.Tests.{eqb-true}
 use Rattle.conditions.specs.Sets.{setOf}
 use Rattle.conditions.proofs.Laws.Below.{by-cases}
 use Rattle.book.specs.declared.Book.{Book}
 use Rattle.book.specs.declared.Open.{Open}
 use Rattle.conditions.specs.declared.place.TransactionNumber.{TransactionNumber}
 use Rattle.book.specs.Answers.{accepted}
-use Rattle.book.specs.Book.{mostDistricts, noRecord, recordAt, openAt, isOpen, placeOf, freePlace, someDepends, someOn}
+use Rattle.book.specs.Book.{mostDistricts, noRecord, recordAt, openAt, isOpen, placeOf, freePlace}
 use Rattle.book.specs.Programs.{steps}
 use Rattle.book.specs.Records.{computingOn, beginRecord, readyRecord, hearRecord}
-use Rattle.book.specs.Forget.{decided, needed, forget}
+use Rattle.book.specs.Forget.{decided, needed}
 use Rattle.book.specs.Transactions.{openOf, done}
 use Rattle.book.specs.Sound.{Sound}
 use Rattle.book.specs.Begin.{touchesDistrict, begun, begin}
@@ -24,85 +24,14 @@ use Rattle.book.specs.GiveUp.{giveUpAnswer, marked, gaveUp, giveUp}
 use Rattle.book.specs.Decide.{completeAnswer, abortAnswer, withDecision, decide, complete, abort}
 use Rattle.book.specs.Hear.{hearAnswer, heard, hear}
 use Rattle.book.proofs.Laws.Shaped.{Shaped}
-use Rattle.book.proofs.Laws.Sound.{place-named}
-use Rattle.book.proofs.Laws.But.{SoundBut, sound-but, place-open}
-use Rattle.book.proofs.Laws.Forgetting.{forget-open, forget-is-open}
+use Rattle.book.proofs.Laws.But.{sound-but}
 use Rattle.book.proofs.Laws.ReadySound.{ready-shaped, ready-records, ready-opens, ready-but}
 use Rattle.book.proofs.Laws.GiveUpSound.{give-up-shaped, give-up-records, give-up-opens, give-up-but}
 use Rattle.book.proofs.Laws.DecideSound.{decide-shaped, decide-opens, decide-but}
 use Rattle.book.proofs.Laws.HearSound.{hear-shaped, hear-records, hear-but}
 use Rattle.book.proofs.Laws.BeginSound.{Begins, begin-shaped, begin-records, begin-opens, free-place, begin-but}
 use Rattle.book.proofs.Laws.Calls.{Whole, Readies, GivesUp, Completes, Aborts, Hears, done-accepted, begin-accepted, ready-tests, give-up-tests, complete-tests, abort-tests, hear-tests, begin-tests, ready-whole, give-up-whole, complete-whole, abort-whole, hear-whole, begin-whole}
-
--- ---- what an accepted call leaves before it forgets
-
--- the tables that c has from e, where c is e after forgetting
-pub record Left (w : ℕ) (e c : Book) : Type 0 where
-  pub last : c .last ≡ e .last
-  pub districts : c .districts ≡ e .districts
-  pub count : c .count ≡ e .count
-  pub records : (d : ℕ) → recordAt c d ≡ recordAt e d
-  pub opens : (q : ℕ) → q < w → isOpen (openAt c q) ≡ true → openAt c q ≡ openAt e q
-  pub stays : (q : ℕ) → q < w → isOpen (openAt e q) ≡ true → isOpen (openAt c q) ≡ (not (decided (openAt e q)) || needed w c q (openAt e q))
-
-left : (w : ℕ) (e c : Book) → c ≡ forget w e → SoundBut w e → Shaped w e → Left w e c
-unfolding forget needed someOn someDepends
-left w e c same s t = record {
-  last = ap (λ (b : Book). b .last) same;
-  districts = ap (λ (b : Book). b .districts) same;
-  count = ap (λ (b : Book). b .count) same;
-  records = λ d. ap (λ (b : Book). recordAt b d) same;
-  opens = λ q h k. let k′ : isOpen (openAt (forget w e) q) ≡ true = rw same at k in ap (λ (b : Book). openAt b q) same ∙ forget-open w e s t q h k′;
-  stays = λ q h k. rw same (forget-is-open w e s t q h k);
-}
-
--- ---- an accepted call on an open transaction
-
--- the transaction number n keeps its place and its number, and its row is then o, where it is not forgotten; every other transaction's row stays, if it is not
-pub record Acts (w : ℕ) (b c : Book) (n : ℕ) (o : Open) : Type 0 where
-  pub before : Sound w b
-  pub after : Whole w c
-  pub place : placeOf w b n < w
-  pub number : o .number ≡ openOf w b n .number
-  pub last : c .last ≡ b .last
-  pub districts : c .districts ≡ b .districts
-  pub count : c .count ≡ b .count
-  pub opens : (q : ℕ) → q < w → isOpen (openAt c q) ≡ true → openAt c q ≡ cond (eqb q (placeOf w b n)) o (openAt b q)
-  pub stays : (q : ℕ) → q < w → isOpen (openAt b q) ≡ true
-      → isOpen (openAt c q) ≡ (not (decided (cond (eqb q (placeOf w b n)) o (openAt b q))) || needed w c q (openAt b q))
-
--- a row of the transaction's number is open where its own is, and needed where its own is
-same-number : (w : ℕ) (c : Book) (q : ℕ) (o r : Open) → o .number ≡ r .number → (isOpen o ≡ isOpen r) × (needed w c q o ≡ needed w c q r)
-unfolding needed
-same-number w c q o r e = (rw e, rw e)
-
--- the places before it forgets, and after
-acts-stays : (w : ℕ) (b e c : Book) (n : ℕ) (o : Open) → Left w e c → o .number ≡ openOf w b n .number
-    → ((q : ℕ) → openAt e q ≡ cond (eqb q (placeOf w b n)) o (openAt b q))
-    → (q : ℕ) → q < w → isOpen (openAt b q) ≡ true → isOpen (openAt c q) ≡ (not (decided (cond (eqb q (placeOf w b n)) o (openAt b q))) || needed w c q (openAt b q))
-acts-stays w b e c n o f number opens q h k =
-    let row : Open = cond (eqb q (placeOf w b n)) o (openAt b q) in
-    let its : row .number ≡ openAt b q .number = by-cases (eqb q (placeOf w b n)) (λ z. rw (z, eqb-true q (placeOf w b n) z) number) (λ z. rw z) in
-    let same = same-number w c q row (openAt b q) its in
-    let kept : isOpen (openAt e q) ≡ true = rw (opens q) (same .0 ∙ k) in
-    let both = f .stays q h kept in
-    let gone : isOpen (openAt c q) ≡ (not (decided row) || needed w c q row) = rw (opens q) at both in
-    gone ∙ ap (λ (y : Bool). not (decided row) || y) (same .1)
-
-module _ (w : ℕ) (b c : Book) (n : ℕ) (o : Open) (act : Acts w b c n o) where
-  -- the row at its place has its number
-  pub acts-number : openOf w b n .number .0 ≡ n
-  acts-number = place-named w b n (act .place) .0
-
-  -- another open transaction has another number
-  pub acts-other : (q : ℕ) → q < w → isOpen (openAt b q) ≡ true → eqb q (placeOf w b n) ≡ false → n ≡ openAt b q .number .0 → ⊥
-  acts-other q h k apart same =
-      let p : ℕ = placeOf w b n in
-      let opened = place-open w b n (act .place) in
-      let differ : q ≡ p → ⊥ = eqb-false q p apart in
-      by-cases (ltb q p)
-      (λ t. act .before .differ p (act .place) opened q (ltb-true q p t) (sym same ∙ sym acts-number))
-      (λ t. act .before .differ q h k p (omega (arith, ltb-false q p t)) (acts-number ∙ same))
+use Rattle.demands.proofs.Acts.{Left, left, Acts, acts}
 
 module _ (w : ℕ) (b : Book) (t : Shaped w b) where
   -- ---- ready
@@ -120,17 +49,10 @@ module _ (w : ℕ) (b : Book) (t : Shaped w b) where
 
     pub ready-acts : Acts w b (ready w b n d .book) n (reported d (openOf w b n))
     unfolding readied
-    ready-acts = let f = ready-facts in record {
-      before = f .sound;
-      after = ready-whole w b n d (record { sound = f .sound; shaped = t });
-      place = f .place;
-      number = refl;
-      last = readyLeft .last;
-      districts = readyLeft .districts;
-      count = readyLeft .count;
-      opens = λ q h k. readyLeft .opens q h k ∙ ready-opens w b (sound-but w b (f .sound)) t n d (f .place) (f .district) (f .on) q;
-      stays = acts-stays w b (readied w b n d) _ n _ readyLeft refl (ready-opens w b (sound-but w b (f .sound)) t n d (f .place) (f .district) (f .on));
-    }
+    ready-acts =
+        let f = ready-facts in
+        acts w b (readied w b n d) _ n _ (f .sound) (ready-whole w b n d (record { sound = f .sound; shaped = t })) (f .place) refl readyLeft refl refl refl
+        (ready-opens w b (sound-but w b (f .sound)) t n d (f .place) (f .district) (f .on))
 
     pub ready-record : (x : ℕ) → recordAt (ready w b n d .book) x ≡ cond (eqb x d) (readyRecord (recordAt b x)) (recordAt b x)
     ready-record x = let f = ready-facts in
@@ -152,17 +74,10 @@ module _ (w : ℕ) (b : Book) (t : Shaped w b) where
 
     pub give-up-acts : Acts w b (giveUp w b n d .book) n (cond (computingOn n (recordAt b d)) (marked d (openOf w b n)) (openOf w b n))
     unfolding gaveUp
-    give-up-acts = let f = give-up-facts in record {
-      before = f .sound;
-      after = give-up-whole w b n d (record { sound = f .sound; shaped = t });
-      place = f .place;
-      number = by-cases (computingOn n (recordAt b d)) (λ k. rw k) (λ k. rw k);
-      last = giveUpLeft .last;
-      districts = giveUpLeft .districts;
-      count = giveUpLeft .count;
-      opens = λ q h k. giveUpLeft .opens q h k ∙ give-up-opens w b (f .sound) t n d (f .place) (f .district) (f .on) q;
-      stays = acts-stays w b (gaveUp w b n d) _ n _ giveUpLeft (by-cases (computingOn n (recordAt b d)) (λ k. rw k) (λ k. rw k)) (give-up-opens w b (f .sound) t n d (f .place) (f .district) (f .on));
-    }
+    give-up-acts =
+        let f = give-up-facts in
+        acts w b (gaveUp w b n d) _ n _ (f .sound) (give-up-whole w b n d (record { sound = f .sound; shaped = t })) (f .place) (by-cases (computingOn n (recordAt b d)) (λ k. rw k) (λ k. rw k)) giveUpLeft refl refl refl
+        (give-up-opens w b (f .sound) t n d (f .place) (f .district) (f .on))
 
     pub give-up-record : (x : ℕ) → recordAt (giveUp w b n d .book) x ≡ cond (eqb x d) noRecord (recordAt b x)
     give-up-record x = let f = give-up-facts in giveUpLeft .records x ∙ give-up-records w b (f .sound) t n d (f .place) (f .district) (f .on) x
@@ -182,17 +97,10 @@ module _ (w : ℕ) (b : Book) (t : Shaped w b) where
 
     pub complete-acts : Acts w b (complete w b n .book) n (withDecision 1 (openOf w b n))
     unfolding decide
-    complete-acts = let f = complete-facts in record {
-      before = f .sound;
-      after = complete-whole w b n (record { sound = f .sound; shaped = t });
-      place = f .place;
-      number = refl;
-      last = completeLeft .last;
-      districts = completeLeft .districts;
-      count = completeLeft .count;
-      opens = λ q h k. completeLeft .opens q h k ∙ decide-opens w b (sound-but w b (f .sound)) t n (f .place) 1 q;
-      stays = acts-stays w b (decide w b n 1) _ n _ completeLeft refl (decide-opens w b (sound-but w b (f .sound)) t n (f .place) 1);
-    }
+    complete-acts =
+        let f = complete-facts in
+        acts w b (decide w b n 1) _ n _ (f .sound) (complete-whole w b n (record { sound = f .sound; shaped = t })) (f .place) refl completeLeft refl refl refl
+        (decide-opens w b (sound-but w b (f .sound)) t n (f .place) 1)
 
     pub complete-record : (x : ℕ) → recordAt (complete w b n .book) x ≡ recordAt b x
     unfolding decide
@@ -213,17 +121,10 @@ module _ (w : ℕ) (b : Book) (t : Shaped w b) where
 
     pub abort-acts : Acts w b (abort w b n .book) n (withDecision 2 (openOf w b n))
     unfolding decide
-    abort-acts = let f = abort-facts in record {
-      before = f .sound;
-      after = abort-whole w b n (record { sound = f .sound; shaped = t });
-      place = f .place;
-      number = refl;
-      last = abortLeft .last;
-      districts = abortLeft .districts;
-      count = abortLeft .count;
-      opens = λ q h k. abortLeft .opens q h k ∙ decide-opens w b (sound-but w b (f .sound)) t n (f .place) 2 q;
-      stays = acts-stays w b (decide w b n 2) _ n _ abortLeft refl (decide-opens w b (sound-but w b (f .sound)) t n (f .place) 2);
-    }
+    abort-acts =
+        let f = abort-facts in
+        acts w b (decide w b n 2) _ n _ (f .sound) (abort-whole w b n (record { sound = f .sound; shaped = t })) (f .place) refl abortLeft refl refl refl
+        (decide-opens w b (sound-but w b (f .sound)) t n (f .place) 2)
 
     pub abort-record : (x : ℕ) → recordAt (abort w b n .book) x ≡ recordAt b x
     unfolding decide
@@ -248,17 +149,10 @@ module _ (w : ℕ) (b : Book) (t : Shaped w b) where
 
     pub hear-acts : Acts w b (hear w b n d .book) n (openOf w b n)
     unfolding heard
-    hear-acts = let f = hear-facts in record {
-      before = f .sound;
-      after = hear-whole w b n d (record { sound = f .sound; shaped = t });
-      place = f .place;
-      number = refl;
-      last = hearLeft .last;
-      districts = hearLeft .districts;
-      count = hearLeft .count;
-      opens = λ q h k. hearLeft .opens q h k ∙ hearOpens q;
-      stays = acts-stays w b (heard w b n d) _ n _ hearLeft refl hearOpens;
-    }
+    hear-acts =
+        let f = hear-facts in
+        acts w b (heard w b n d) _ n _ (f .sound) (hear-whole w b n d (record { sound = f .sound; shaped = t })) (f .place) refl hearLeft refl refl refl
+        (hearOpens)
 
     pub hear-record : (x : ℕ) → recordAt (hear w b n d .book) x ≡ cond (eqb x d) (hearRecord n (recordAt b x)) (recordAt b x)
     hear-record x = let f = hear-facts in
