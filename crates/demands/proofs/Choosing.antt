@@ -34,11 +34,10 @@ use Rattle.book.proofs.Laws.Calls.{GivesUp, Hears}
 use Rattle.demands.specs.Calls.{givesUp}
 use Rattle.demands.specs.Past.{Said, said, asksComplete, wasCompleted, wasAborted, Guess}
 use Rattle.demands.specs.Demands.{pendingAt, Says}
-use Rattle.demands.proofs.Acts.{acts-number}
 use Rattle.demands.proofs.Tables.{give-up-facts, hear-facts, give-up-acts}
 use Rattle.demands.proofs.Items.{ready-on, complete-on, abort-on, give-up-on, busy-item, hear-on}
 use Rattle.demands.proofs.Ledger.{ever-now, Ledger, row-marks}
-use Rattle.demands.proofs.Marking.{give-up-marked, hear-row, hear-number}
+use Rattle.demands.proofs.Marking.{give-up-marked, hear-marks}
 
 -- what counts
 abbrev pub chosenAt : Book → (ℕ → Bool) → ℕ → ℕ → ℤ
@@ -84,10 +83,9 @@ module _ (w : ℕ) (b : Book) (t : Shaped w b) (g : ℕ → Bool) (a : ℕ) (s :
       notCompleted : computingOn n (recordAt b d) ≡ true → wasCompleted (said w b (givesUp n d) ∷ past) n ≡ true → ⊥
       notCompleted k z =
           let o = openOf w b n in
-          let number = acts-number w b _ n _ (give-up-acts w b t n d e) in
           let marks = row-marks w b _ past l n _ (give-up-acts w b t n d e) in
           let its : itsOpen w b (recordAt b d) ≡ o = ap (openOf w b) (busy-is n (recordAt b d) (facts .on) .1) in
-          let one : o .decision ≡ 1 = eqb-true (o .decision) 1 (sym (marks .completed) ∙ ap (wasCompleted past) number ∙ sym (ever-now past (said w b (givesUp n d)) (asksComplete n) e) ∙ z) in
+          let one : o .decision ≡ 1 = eqb-true (o .decision) 1 (sym (marks .completed) ∙ sym (ever-now past (said w b (givesUp n d)) (asksComplete n) e) ∙ z) in
           let touched : member (o .touched) d ≡ true = rw its at (facts .sound .busyTouched d (facts .district) (busy-is n (recordAt b d) (facts .on) .0)) in
           let ready = facts .sound .completedReady (placeOf w b n) (facts .place) (place-open w b n (facts .place)) one d (facts .district) touched in
           let not : member (o .ready) d ≡ false = rw its at (facts .sound .computingNotReady d (facts .district) (computing-on n (recordAt b d) k .0)) in
@@ -126,15 +124,14 @@ module _ (w : ℕ) (b : Book) (t : Shaped w b) (g : ℕ → Bool) (a : ℕ) (s :
       kept : g n ≡ outcome (openOf w b n)
       kept =
           let o = openOf w b n in
-          let marks = hear-row w b t past l n d e in
-          let number = hear-number w b t past l n d e in
+          let marks = hear-marks w b t past l n d e in
           by-cases (eqb (o .decision) 1)
-          (λ k. legal .completed n (ap (wasCompleted past) (sym number) ∙ marks .completed ∙ k) ∙ sym k)
+          (λ k. legal .completed n (marks .completed ∙ k) ∙ sym k)
           (λ k.
           let some : o .decision ≡ 0 → ⊥ = eqb-false (o .decision) 0 (not-true _ (hearing .decision)) in
           let few = hearing .sound .decisions (placeOf w b n) (hearing .place) (place-open w b n (hearing .place)) in
           let two : o .decision ≡ 2 = omega (arith, eqb-false (o .decision) 1 k, some, few) in
-          legal .aborted n (ap (wasAborted past) (sym number) ∙ marks .aborted ∙ eq-eqb (o .decision) 2 two) ∙ sym k)
+          legal .aborted n (marks .aborted ∙ eq-eqb (o .decision) 2 two) ∙ sym k)
 
       -- so the assignment is already as it is set
       set : withPlace w a (placeOf w b n) (outcome (openOf w b n)) ≡ a

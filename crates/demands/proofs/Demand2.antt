@@ -30,7 +30,7 @@ use Rattle.book.proofs.Laws.Events.{begin-values, ready-keeps, give-up-values, 
 use Rattle.demands.specs.Calls.{Call, begins, readies, givesUp, completes, aborts, hears, shows, answerTo, bookAfter}
 use Rattle.demands.specs.Demands.{pendingAt, Values, isDecided, Demand2}
 use Rattle.demands.proofs.Acts.{Acts, acts-number, acts-other}
-use Rattle.demands.proofs.Tables.{ready-acts, give-up-acts, complete-acts, abort-acts, hear-acts, begin-stays, ready-record, give-up-record, complete-record, abort-record, hear-record, begin-record}
+use Rattle.demands.proofs.Tables.{ready-acts, give-up-acts, complete-acts, abort-acts, hear-acts, begin-number, begin-grant, begin-stays, ready-record, give-up-record, complete-record, abort-record, hear-record, begin-record}
 
 -- an item that stays has its values
 stays : (b c : Book) (i : ℕ) → itemAt c i ≡ itemAt b i → (a : ℕ) → Values c a i (heldAt b a i) (pendingAt b a i)
@@ -82,6 +82,7 @@ demand-2 w = record {
   unique = unique w;
   beginning = λ bytes b t e i h a l. let v = begin-values w b t i h a l bytes e in record { held = v .held; pending = v .pending };
   beginningRecords = λ bytes b t e d h. begin-record w b t bytes e d h;
+  beginningAnswer = λ bytes b t e. (begin-number w b t bytes e, begin-grant w b t bytes e);
   readiness = λ n d b t e i h a l. stays b _ i (ready-keeps w b n d e i) a;
   readinessRecords = λ n d b t e x h. ready-record w b t n d e x;
   givingUp = λ n d b t e i h a l. let v = give-up-values w b t i h a l n d e in record { held = v .held; pending = v .pending };

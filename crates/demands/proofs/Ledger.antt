@@ -1,5 +1,5 @@
 -- What the book keeps of an open transaction, its ready set, its gave-up set and its decision, is what the calls and their answers say of its number.
-use mathlib.Core.Path.{_≡_, refl, sym, _∙_, ap}
+use mathlib.Core.Path.{_≡_, refl, sym, _∙_, ap, subst}
 use mathlib.Core.Bool.{Bool, true, false, _&&_, _||_, and-false}
 use mathlib.Core.List.{List, _∷_}
 use Prim.Native.Nat.{ℕ, _≤_, _<_}
@@ -110,19 +110,41 @@ silent-same past x n e =
 
 -- ---- marks
 
--- the row of an open transaction says what the past does
-pub record Marks (past : List Said) (districts : ℕ) (o : Open) : Type 0 where
-  pub completed : wasCompleted past (o .number .0) ≡ eqb (o .decision) 1
-  pub aborted : wasAborted past (o .number .0) ≡ eqb (o .decision) 2
-  pub ready : (d : ℕ) → d < districts → wasReady past (o .number .0) d ≡ member (o .ready) d
-  pub gave : wasGivenUp past (o .number .0) ≡ true → (d : ℕ) × (d < districts) × (member (o .gave) d ≡ true)
+-- the row o of the open transaction number n says what the past does
+pub record Marks (past : List Said) (districts n : ℕ) (o : Open) : Type 0 where
+  pub completed : wasCompleted past n ≡ eqb (o .decision) 1
+  pub aborted : wasAborted past n ≡ eqb (o .decision) 2
+  pub ready : (d : ℕ) → d < districts → wasReady past n d ≡ member (o .ready) d
+  pub gave : wasGivenUp past n ≡ true → (d : ℕ) × (d < districts) × (member (o .gave) d ≡ true)
 
-pub same-marks : (past now : List Said) (districts : ℕ) (o : Open) → Same past now (o .number .0) → Marks past districts o → Marks now districts o
-same-marks past now districts o s m = record {
+pub same-marks : (past now : List Said) (districts n : ℕ) (o : Open) → Same past now n → Marks past districts n o → Marks now districts n o
+same-marks past now districts n o s m = record {
   completed = s .completed ∙ m .completed;
   aborted = s .aborted ∙ m .aborted;
   ready = λ d h. s .ready d ∙ m .ready d h;
   gave = λ e. m .gave (sym (s .gave) ∙ e);
+}
+
+-- the accepted call x on the transaction number n turns its row r into o
+pub record Turns (past : List Said) (x : Said) (districts n : ℕ) (r o : Open) : Type 0 where
+  pub answered : accepted (x .answer) ≡ true
+  pub completed : (asksComplete n (x .call) || eqb (r .decision) 1) ≡ eqb (o .decision) 1
+  pub aborted : (asksAbort n (x .call) || eqb (r .decision) 2) ≡ eqb (o .decision) 2
+  pub ready : (d : ℕ) → d < districts → (asksReady n d (x .call) || member (r .ready) d) ≡ member (o .ready) d
+  pub gives : givesUpEarly past n (x .call) ≡ true → (d : ℕ) × (d < districts) × (member (o .gave) d ≡ true)
+  pub gave : (d : ℕ) → d < districts → member (r .gave) d ≡ true → member (o .gave) d ≡ true
+
+turned-marks : (past : List Said) (x : Said) (districts n : ℕ) (r o : Open) → Turns past x districts n r o → Marks past districts n r → Marks (x ∷ past) districts n o
+turned-marks past x districts n r o t m = record {
+  completed = ever-now past x (asksComplete n) (t .answered) ∙ rw (m .completed) (t .completed);
+  aborted = ever-now past x (asksAbort n) (t .answered) ∙ rw (m .aborted) (t .aborted);
+  ready = λ d h. ever-now past x (asksReady n d) (t .answered) ∙ rw (m .ready d h) (t .ready d h);
+  gave = λ e.
+      by-cases (givesUpEarly past n (x .call))
+      (λ k. t .gives k)
+      (λ k.
+      let before = m .gave (sym (given-up-now past x n (t .answered) ∙ rw k) ∙ e) in
+      (before .0, before .1, t .gave (before .0) (before .1) (before .2)));
 }
 
 -- nothing is said of the number n
@@ -142,7 +164,7 @@ same-unmarked past now n s u = record {
 
 -- the book b and the past go together
 pub record Ledger (w : ℕ) (b : Book) (past : List Said) : Type 0 where
-  pub marks : (q : ℕ) → q < w → isOpen (openAt b q) ≡ true → Marks past (b .districts) (openAt b q)
+  pub marks : (q : ℕ) → q < w → isOpen (openAt b q) ≡ true → Marks past (b .districts) (openAt b q .number .0) (openAt b q)
   pub fresh : (n : ℕ) → b .last .0 < n → Unmarked past n
   pub once : (n : ℕ) → wasCompleted past n ≡ true → wasAborted past n ≡ false
   pub last : b .last .0 ≡ begun past
@@ -150,7 +172,7 @@ pub record Ledger (w : ℕ) (b : Book) (past : List Said) : Type 0 where
 -- a call that leaves the book, and says nothing
 pub quiet-ledger : (w : ℕ) (b : Book) (past : List Said) (x : Said) → ((n : ℕ) → Same past (x ∷ past) n) → begun (x ∷ past) ≡ begun past → Ledger w b past → Ledger w b (x ∷ past)
 quiet-ledger w b past x s count l = record {
-  marks = λ q h k. same-marks past (x ∷ past) (b .districts) (openAt b q) (s _) (l .marks q h k);
+  marks = λ q h k. same-marks past (x ∷ past) (b .districts) _ (openAt b q) (s _) (l .marks q h k);
   fresh = λ n h. same-unmarked past (x ∷ past) n (s n) (l .fresh n h);
   once = λ n e. s n .aborted ∙ l .once n (sym (s n .completed) ∙ e);
   last = l .last ∙ sym count;
@@ -162,25 +184,26 @@ module _ (w : ℕ) (b c : Book) (past : List Said) (l : Ledger w b past) (n : �
   q = placeOf w b n
 
   -- its row as it was
-  pub row-marks : Marks past (b .districts) (openOf w b n)
-  row-marks = l .marks q (act .place) (place-open w b n (act .place))
+  pub row-marks : Marks past (b .districts) n (openOf w b n)
+  row-marks = let m = l .marks q (act .place) (place-open w b n (act .place)) in rw (acts-number w b c n o act) at m
 
   given : n ≤ b .last .0
   given = omega (arith, acts-number w b c n o act, act .before .given q (act .place) (place-open w b n (act .place)))
 
   module _ (x : Said) (silence : (m : ℕ) → (n ≡ m → ⊥) → speaksOf m (x .call) ≡ false) (noBegin : asksBegin (x .call) ≡ false)
-      (marks : Marks (x ∷ past) (b .districts) o) where
+      (turns : Turns past x (b .districts) n (openOf w b n) o) where
     elsewhere : (m : ℕ) → (n ≡ m → ⊥) → Same past (x ∷ past) m
     elsewhere m apart = silent-same past x m (silence m apart)
+
+    marks : Marks (x ∷ past) (b .districts) n o
+    marks = turned-marks past x (b .districts) n (openOf w b n) o turns row-marks
 
     number : o .number .0 ≡ n
     number = ap (λ (m : TransactionNumber). m .0) (act .number) ∙ acts-number w b c n o act
 
     -- a row has one decision
     notBoth : wasCompleted (x ∷ past) n ≡ true → wasAborted (x ∷ past) n ≡ false
-    notBoth e =
-        let one : o .decision ≡ 1 = eqb-true (o .decision) 1 (sym (marks .completed) ∙ ap (wasCompleted (x ∷ past)) number ∙ e) in
-        ap (wasAborted (x ∷ past)) (sym number) ∙ marks .aborted ∙ ap (λ (v : ℕ). eqb v 2) one
+    notBoth e = marks .aborted ∙ ap (λ (v : ℕ). eqb v 2) (eqb-true (o .decision) 1 (sym (marks .completed) ∙ e))
 
     pub acts-ledger : Ledger w c (x ∷ past)
     unfolding begun
@@ -188,11 +211,11 @@ module _ (w : ℕ) (b c : Book) (past : List Said) (l : Ledger w b past) (n : �
       marks = λ p h k.
           let row = act .opens p h k in
           by-cases (eqb p q)
-          (λ e. rw (row, e, act .districts) marks)
+          (λ e. rw (row, e, act .districts) (subst (λ m. Marks (x ∷ past) (b .districts) m o) (sym number) marks))
           (λ e.
           let stays : openAt c p ≡ openAt b p = row ∙ rw e in
           let k′ : isOpen (openAt b p) ≡ true = rw stays at k in
-          rw (stays, act .districts) (same-marks past (x ∷ past) (b .districts) (openAt b p) (elsewhere _ (acts-other w b c n o act p h k′ e)) (l .marks p h k′)));
+          rw (stays, act .districts) (same-marks past (x ∷ past) (b .districts) _ (openAt b p) (elsewhere _ (acts-other w b c n o act p h k′ e)) (l .marks p h k′)));
       fresh = λ m h. let h′ : b .last .0 < m = rw (act .last) at h in same-unmarked past (x ∷ past) m (elsewhere m (λ e. omega (arith, given))) (l .fresh m h′);
       once = λ m e. by-cases (eqb n m)
           (λ t. let same : n ≡ m = eqb-true n m t in rw (← same) (notBoth (rw (← same) at e)))

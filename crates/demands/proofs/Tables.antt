@@ -18,7 +18,7 @@ use Rattle.book.specs.Records.{computingOn, beginRecord, readyRecord, hearRecor
 use Rattle.book.specs.Forget.{decided, needed}
 use Rattle.book.specs.Transactions.{openOf, done}
 use Rattle.book.specs.Sound.{Sound}
-use Rattle.book.specs.Begin.{touchesDistrict, begun, begin}
+use Rattle.book.specs.Begin.{grant, touchesDistrict, begun, begin}
 use Rattle.book.specs.Ready.{readyAnswer, reported, readied, ready}
 use Rattle.book.specs.GiveUp.{giveUpAnswer, marked, gaveUp, giveUp}
 use Rattle.book.specs.Decide.{completeAnswer, abortAnswer, withDecision, decide, complete, abort}
@@ -181,6 +181,10 @@ module _ (w : ℕ) (b : Book) (t : Shaped w b) where
     pub begin-number : begin w b bytes .number .0 ≡ suc (b .last .0)
     unfolding begin
     begin-number = rw e
+
+    pub begin-grant : begin w b bytes .grant ≡ grant w b (steps bytes)
+    unfolding begin
+    begin-grant = rw e
 
     pub begin-districts : begin w b bytes .book .districts ≡ b .districts
     unfolding begun

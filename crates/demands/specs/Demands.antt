@@ -27,7 +27,7 @@ use Rattle.book.specs.Forget.{decided}
 use Rattle.book.specs.Transactions.{openOf}
 use Rattle.book.specs.Open.{goodOpening, opened}
 use Rattle.book.specs.SoundTest.{sound}
-use Rattle.book.specs.Begin.{heldAt, touchesDistrict}
+use Rattle.book.specs.Begin.{heldAt, grant, touchesDistrict, begin}
 use Rattle.book.specs.Hear.{outcome}
 use Rattle.book.specs.Show.{heldLine, showAnswer, shown}
 use Rattle.book.specs.Examples.{Example1, Example2, Example3, Example4, Example5, Example6, Example7, Example8, Example9}
@@ -136,6 +136,8 @@ pub record Demand2 (w : ℕ) : Type 0 where
       Values after a i (heldAt b a i) (cond (touches (steps bytes) i) (run (steps bytes) (heldAt b a) i) (pendingAt b a i)))) (begins bytes)
   pub beginningRecords : (bytes : List ℕ) → Accepts w (λ b after. Records b after (λ d.
       cond (touchesDistrict b (steps bytes) d) (beginRecord (suc (b .last .0))) (recordAt b d))) (begins bytes)
+  -- "The answer is the number and a grant: 1 if no assignment declines, 0 if all do, 2 otherwise."
+  pub beginningAnswer : (bytes : List ℕ) → Accepts w (λ b after. (begin w b bytes .number .0 ≡ suc (b .last .0)) × (begin w b bytes .grant ≡ grant w b (steps bytes))) (begins bytes)
   -- "readiness"
   pub readiness : (n d : ℕ) → Accepts w (λ b after. EachValue w b (λ a i. Values after a i (heldAt b a i) (pendingAt b a i))) (readies n d)
   pub readinessRecords : (n d : ℕ) → Accepts w (λ b after. Records b after (λ e. cond (eqb e d) (readyRecord (recordAt b e)) (recordAt b e))) (readies n d)
