@@ -77,8 +77,8 @@ forgets w (shows i buf) b t e q h k = shown-stays w b i buf e q h k ∙ rw (or-f
 pub demand-2 : (w : ℕ) → Demand2 w
 unfolding shown
 demand-2 w = record {
-  held = λ b v i h. sound-well-formed w (itemAt b i .held) (v .sound .held i h);
-  pending = λ b v i h. sound-well-formed w (itemAt b i .pending) (v .sound .pending i h);
+  held = λ b s i h. sound-well-formed w (itemAt b i .held) (s .held i h);
+  pending = λ b s i h. sound-well-formed w (itemAt b i .pending) (s .pending i h);
   unique = unique w;
   beginning = λ bytes b t e i h a l. let v = begin-values w b t i h a l bytes e in record { held = v .held; pending = v .pending };
   beginningRecords = λ bytes b t e d h. begin-record w b t bytes e d h;

@@ -114,6 +114,7 @@ module _ (w districts : ℕ) (xs : List Opening) (good : goodOpening districts x
 
   serially : (h : History) → Serially w xs (bookOf w b₀ h) (pastOf w b₀ h)
   serially h = record {
+    sound = history-inv h .whole .sound;
     count = history-count h;
     districts = λ i l. history-kept h .districts i (rw (opened-count w districts xs good) l) ∙ opened-district w districts xs good i l;
     right = λ g legal a says i l. item-right w s₀ (bookOf w b₀ h) (pastOf w b₀ h) (history-inv h) g legal a says i (rw (history-count h) l);

@@ -13,3 +13,4 @@ pub mod Demand3
 pub mod Demand1
 pub mod Demand2
 pub mod Examples
+pub mod All

@@ -1,33 +1,34 @@
 -- The customer's three demands, and the marked examples of document 01, as statements. Their proofs stand in ../proofs: whoever reads this file, and the definitions that it
 -- names, has read what is proved. All of it holds for any number w of places; that of the code is `places`, in crate conditions.
 use mathlib.Core.Path.{_≡_}
-use mathlib.Core.Bool.{Bool, true, false, not, _&&_, _||_, cond}
-use mathlib.Core.List.{List, [], _∷_, _++_, map}
+use mathlib.Core.Bool.{Bool, true, false, not, _||_, cond}
+use mathlib.Core.List.{List, [], _∷_}
 use Prim.Native.Nat.{ℕ, suc, _^_, _<_}
-use lib.Dec.{eqb}
+use lib.Dec.{eqb, ltb}
 use lib.IntN.{ℤ, pos}
 use lib.ListN.{length, getD}
 use Rattle.conditions.specs.Sets.{member}
 use Rattle.conditions.specs.Places.{withPlace}
-use Rattle.conditions.specs.Written.{written}
+use Rattle.conditions.specs.Written.{room, written}
 use Rattle.conditions.specs.Example.{Example10}
 use Rattle.polyvalues.specs.declared.polyvalue.Pair.{Pair}
 use Rattle.polyvalues.specs.Pairs.{at, hits}
 use Rattle.polyvalues.specs.Polyvalues.{Complete, WellFormed, inUse}
-use Rattle.book.specs.declared.Answer.{Answer}
-use Rattle.book.specs.declared.Answer.the-variants.{Accepted, TooManyValues, Unsound}
+use Rattle.book.specs.declared.Answer.the-variants.{TooManyValues}
 use Rattle.book.specs.declared.Book.{Book}
 use Rattle.book.specs.declared.Opening.{Opening}
 use Rattle.book.specs.declared.Record.{Record}
-use Rattle.book.specs.Answers.{answerNumber, accepted, firstOf}
-use Rattle.book.specs.Book.{noRecord, noBook, recordAt, itemAt, openAt, idle, isOpen, placeOf, someDepends, someOn}
+use Rattle.book.specs.Answers.{answerNumber, accepted}
+use Rattle.book.specs.Book.{lastNumber, noRecord, noBook, recordAt, itemAt, openAt, idle, isOpen, placeOf, freePlace, someDepends, someOn}
 use Rattle.book.specs.Programs.{steps, run, touches}
 use Rattle.book.specs.Records.{computingOn, busyOn, beginRecord, readyRecord, hearRecord}
 use Rattle.book.specs.Forget.{decided}
-use Rattle.book.specs.Transactions.{openOf}
+use Rattle.book.specs.Transactions.{unsound, notOpen, noDistrict, openOf}
 use Rattle.book.specs.Open.{goodOpening, opened}
+use Rattle.book.specs.Sound.{Sound}
 use Rattle.book.specs.SoundTest.{sound}
-use Rattle.book.specs.Begin.{heldAt, grant, touchesDistrict, begin}
+use Rattle.book.specs.Begin.{someStep, badProgram, outside, heldAt, grant, someBusy, tooMany, touchesDistrict, begin}
+use Rattle.book.specs.Decide.{someNotReady}
 use Rattle.book.specs.Hear.{outcome}
 use Rattle.book.specs.Show.{heldLine, showAnswer, shown}
 use Rattle.book.specs.Examples.{Example1, Example2, Example3, Example4, Example5, Example6, Example7, Example8, Example9}
@@ -37,11 +38,6 @@ use Rattle.demands.specs.Calls.{Call, begins, readies, givesUp, complete
 use Rattle.demands.specs.Past.{Said, pastOf, asksBegin, asksComplete, asksAbort, begun, Guess, serial}
 
 -- ==== Demand 1
-
--- no row of a list holds
-abbrev pub noneHolds : List (Bool × Answer) → Bool
-noneHolds [] = true
-noneHolds (row ∷ more) = not (row .0) && noneHolds more
 
 -- "Order: 15 first. Begin: 3, 2, 5, 6, 7, 8 .. Events on a transaction: 4, 1, then 9, or 10, 11, or 12. Show: 2, 16."
 abbrev pub orderOf : Call → List ℕ
@@ -53,14 +49,27 @@ orderOf (aborts n) = 15 ∷ 4 ∷ 10 ∷ []
 orderOf (hears n d) = 15 ∷ 4 ∷ 1 ∷ 12 ∷ []
 orderOf (shows i buf) = 15 ∷ 2 ∷ 16 ∷ []
 
+-- the document's tests for a call, in this order
+abbrev pub testsOf : ℕ → Book → Call → List Bool
+testsOf w b (begins bytes) =
+    unsound w b ∷ badProgram bytes ∷ someStep (outside (b .count)) (steps bytes) ∷ someBusy b (steps bytes) ∷ not (ltb (freePlace w b) w) ∷ not (ltb (b .last .0) lastNumber)
+    ∷ tooMany w b (steps bytes) ∷ []
+testsOf w b (readies n d) = unsound w b ∷ notOpen w b n ∷ noDistrict b d ∷ not (computingOn n (recordAt b d)) ∷ []
+testsOf w b (givesUp n d) = unsound w b ∷ notOpen w b n ∷ noDistrict b d ∷ not (busyOn n (recordAt b d)) ∷ []
+testsOf w b (completes n) = unsound w b ∷ notOpen w b n ∷ decided (openOf w b n) ∷ someNotReady b (openOf w b n) ∷ []
+testsOf w b (aborts n) = unsound w b ∷ notOpen w b n ∷ decided (openOf w b n) ∷ []
+testsOf w b (hears n d) = unsound w b ∷ notOpen w b n ∷ noDistrict b d ∷ not (decided (openOf w b n)) ∷ []
+testsOf w b (shows i buf) = unsound w b ∷ not (ltb i (b .count)) ∷ not (room buf 0 (heldLine w b i)) ∷ []
+
+-- the number of the first test that holds, and 0 where none does: "0: accepted"
+abbrev pub firstNumber : List Bool → List ℕ → ℕ
+firstNumber [] numbers = 0
+firstNumber (t ∷ tests) [] = 0
+firstNumber (t ∷ tests) (n ∷ numbers) = cond t n (firstNumber tests numbers)
+
 pub record Demand1 (w : ℕ) : Type 0 where
-  -- "Every call with every argument ends with an answer or one of the numbered refusals, given exactly when its row says.": each answer is that of the first row that holds,
-  -- in the order of the document's numbers, and "accepted" where none does
-  pub order : (b : Book) (c : Call) → (rows : List (Bool × Answer)) × (answerTo w b c ≡ firstOf rows) × (map (λ row. answerNumber (row .1)) rows ≡ orderOf c)
-  pub first : (before more : List (Bool × Answer)) (a : Answer) → noneHolds before ≡ true → firstOf (before ++ (true, a) ∷ more) ≡ a
-  pub otherwise : (rows : List (Bool × Answer)) → noneHolds rows ≡ true → firstOf rows ≡ Accepted
-  -- "15: the book handed in is not sound"
-  pub unsound : (b : Book) (c : Call) → sound w b ≡ false → answerTo w b c ≡ Unsound
+  -- "Every call with every argument ends with an answer or one of the numbered refusals, given exactly when its row says."
+  pub answers : (b : Book) (c : Call) → answerNumber (answerTo w b c) ≡ firstNumber (testsOf w b c) (orderOf c)
   -- "A refused call leaves the book .. as [it was] before it."
   pub refused : (b : Book) (c : Call) → accepted (answerTo w b c) ≡ false → bookAfter w b c ≡ b
   -- ".. and a buffer lent for text"
@@ -91,8 +100,8 @@ pub record Values (after : Book) (a i : ℕ) (u v : ℤ) : Type 0 where
   pub pending : pendingAt after a i ≡ v
 
 -- an accepted call on a book of full tables: something holds of the book after it
-abbrev pub Accepts : ℕ → (Book → Book → Type 0) → Call → Type 0
-Accepts w P c = (b : Book) → Shaped w b → accepted (answerTo w b c) ≡ true → P b (bookAfter w b c)
+abbrev pub Accepts : ℕ → Call → (Book → Book → Type 0) → Type 0
+Accepts w c P = (b : Book) → Shaped w b → accepted (answerTo w b c) ≡ true → P b (bookAfter w b c)
 
 -- a value for each item and each assignment
 abbrev pub EachValue : ℕ → Book → (ℕ → ℕ → Type 0) → Type 0
@@ -127,36 +136,36 @@ isDecided b c q = decided (openAt b q) || (asksComplete (openAt b q .number .0) 
 
 pub record Demand2 (w : ℕ) : Type 0 where
   -- "equal values joined, no empty condition, conditions complete and disjoint": in every sound book
-  pub held : (b : Book) → Whole w b → (i : ℕ) → i < b .count → WellFormed w (inUse (itemAt b i .held))
-  pub pending : (b : Book) → Whole w b → (i : ℕ) → i < b .count → WellFormed w (inUse (itemAt b i .pending))
+  pub held : (b : Book) → Sound w b → (i : ℕ) → i < b .count → WellFormed w (inUse (itemAt b i .held))
+  pub pending : (b : Book) → Sound w b → (i : ℕ) → i < b .count → WellFormed w (inUse (itemAt b i .pending))
   -- "Two polyvalues that choose alike under all of document 01's assignments, also those a decision has ruled out, are the same pairs."
   pub unique : (ps qs : List Pair) → Complete w ps → Complete w qs → ((a : ℕ) → a < 2 ^ w → at ps a ≡ at qs a) → ps ≡ qs
   -- "Beginning": "For each of the 64 assignments run the program on the held values chosen by it. The results are the touched items' pending polyvalues."
-  pub beginning : (bytes : List ℕ) → Accepts w (λ b after. EachValue w b (λ a i.
-      Values after a i (heldAt b a i) (cond (touches (steps bytes) i) (run (steps bytes) (heldAt b a) i) (pendingAt b a i)))) (begins bytes)
-  pub beginningRecords : (bytes : List ℕ) → Accepts w (λ b after. Records b after (λ d.
-      cond (touchesDistrict b (steps bytes) d) (beginRecord (suc (b .last .0))) (recordAt b d))) (begins bytes)
+  pub beginning : (bytes : List ℕ) → Accepts w (begins bytes) (λ b after. EachValue w b (λ a i.
+      Values after a i (heldAt b a i) (cond (touches (steps bytes) i) (run (steps bytes) (heldAt b a) i) (pendingAt b a i))))
+  pub beginningRecords : (bytes : List ℕ) → Accepts w (begins bytes) (λ b after. Records b after (λ d.
+      cond (touchesDistrict b (steps bytes) d) (beginRecord (suc (b .last .0))) (recordAt b d)))
   -- "The answer is the number and a grant: 1 if no assignment declines, 0 if all do, 2 otherwise."
-  pub beginningAnswer : (bytes : List ℕ) → Accepts w (λ b after. (begin w b bytes .number .0 ≡ suc (b .last .0)) × (begin w b bytes .grant ≡ grant w b (steps bytes))) (begins bytes)
+  pub beginningAnswer : (bytes : List ℕ) → Accepts w (begins bytes) (λ b after. (begin w b bytes .number .0 ≡ suc (b .last .0)) × (begin w b bytes .grant ≡ grant w b (steps bytes)))
   -- "readiness"
-  pub readiness : (n d : ℕ) → Accepts w (λ b after. EachValue w b (λ a i. Values after a i (heldAt b a i) (pendingAt b a i))) (readies n d)
-  pub readinessRecords : (n d : ℕ) → Accepts w (λ b after. Records b after (λ e. cond (eqb e d) (readyRecord (recordAt b e)) (recordAt b e))) (readies n d)
+  pub readiness : (n d : ℕ) → Accepts w (readies n d) (λ b after. EachValue w b (λ a i. Values after a i (heldAt b a i) (pendingAt b a i)))
+  pub readinessRecords : (n d : ℕ) → Accepts w (readies n d) (λ b after. Records b after (λ e. cond (eqb e d) (readyRecord (recordAt b e)) (recordAt b e)))
   -- "giving up"
-  pub givingUp : (n d : ℕ) → Accepts w (λ b after. EachValue w b (λ a i.
-      Values after a i (cond (isIn b d i) (givenUpAt w b n d a i) (heldAt b a i)) (cond (isIn b d i) (givenUpAt w b n d a i) (pendingAt b a i)))) (givesUp n d)
-  pub givingUpRecords : (n d : ℕ) → Accepts w (λ b after. Records b after (λ e. cond (eqb e d) noRecord (recordAt b e))) (givesUp n d)
+  pub givingUp : (n d : ℕ) → Accepts w (givesUp n d) (λ b after. EachValue w b (λ a i.
+      Values after a i (cond (isIn b d i) (givenUpAt w b n d a i) (heldAt b a i)) (cond (isIn b d i) (givenUpAt w b n d a i) (pendingAt b a i))))
+  pub givingUpRecords : (n d : ℕ) → Accepts w (givesUp n d) (λ b after. Records b after (λ e. cond (eqb e d) noRecord (recordAt b e)))
   -- "decision"
-  pub completing : (n : ℕ) → Accepts w (λ b after. EachValue w b (λ a i. Values after a i (heldAt b a i) (pendingAt b a i))) (completes n)
-  pub completingRecords : (n : ℕ) → Accepts w (λ b after. Records b after (recordAt b)) (completes n)
-  pub aborting : (n : ℕ) → Accepts w (λ b after. EachValue w b (λ a i. Values after a i (heldAt b a i) (pendingAt b a i))) (aborts n)
-  pub abortingRecords : (n : ℕ) → Accepts w (λ b after. Records b after (recordAt b)) (aborts n)
+  pub completing : (n : ℕ) → Accepts w (completes n) (λ b after. EachValue w b (λ a i. Values after a i (heldAt b a i) (pendingAt b a i)))
+  pub completingRecords : (n : ℕ) → Accepts w (completes n) (λ b after. Records b after (recordAt b))
+  pub aborting : (n : ℕ) → Accepts w (aborts n) (λ b after. EachValue w b (λ a i. Values after a i (heldAt b a i) (pendingAt b a i)))
+  pub abortingRecords : (n : ℕ) → Accepts w (aborts n) (λ b after. Records b after (recordAt b))
   -- "hearing"
-  pub hearing : (n d : ℕ) → Accepts w (λ b after. EachValue w b (λ a i.
-      Values after a i (cond (isIn b d i) (heardAt w b n d (heldAt b) a i) (heldAt b a i)) (cond (isIn b d i) (heardAt w b n d (pendingAt b) a i) (pendingAt b a i)))) (hears n d)
-  pub hearingRecords : (n d : ℕ) → Accepts w (λ b after. Records b after (λ e. cond (eqb e d) (hearRecord n (recordAt b e)) (recordAt b e))) (hears n d)
+  pub hearing : (n d : ℕ) → Accepts w (hears n d) (λ b after. EachValue w b (λ a i.
+      Values after a i (cond (isIn b d i) (heardAt w b n d (heldAt b) a i) (heldAt b a i)) (cond (isIn b d i) (heardAt w b n d (pendingAt b) a i) (pendingAt b a i))))
+  pub hearingRecords : (n d : ℕ) → Accepts w (hears n d) (λ b after. Records b after (λ e. cond (eqb e d) (hearRecord n (recordAt b e)) (recordAt b e)))
   -- "At the end of each accepted event, a decided transaction is closed, and its place freed, exactly when no district is on it and no held or pending polyvalue depends on it."
-  pub forgetting : (c : Call) → Accepts w (λ b after. (q : ℕ) → q < w → isOpen (openAt b q) ≡ true
-      → isOpen (openAt after q) ≡ (not (isDecided b c q) || (someOn after (openAt b q .number .0) || someDepends w after q))) c
+  pub forgetting : (c : Call) → Accepts w c (λ b after. (q : ℕ) → q < w → isOpen (openAt b q) ≡ true
+      → isOpen (openAt after q) ≡ (not (isDecided b c q) || (someOn after (openAt b q .number .0) || someDepends w after q)))
   -- "showing"
   pub showing : (b : Book) (i : ℕ) (buf : List ℕ) → accepted (showAnswer w b i buf) ≡ true → shown w b i buf ≡ written buf 0 (heldLine w b i)
 
@@ -189,7 +198,8 @@ pub record Right (g : ℕ → Bool) (v : ℤ) (b : Book) (a i : ℕ) : Type 0 wh
 
 -- the book b after the calls of the past, on a book that was opened with the items xs
 pub record Serially (w : ℕ) (xs : List Opening) (b : Book) (past : List Said) : Type 0 where
-  -- the items are those that were opened
+  -- it is sound, and its items are those that were opened
+  pub sound : Sound w b
   pub count : b .count ≡ length xs
   pub districts : (i : ℕ) → i < length xs → itemAt b i .district ≡ openingOf xs i .district
   -- "guess all outcomes, keeping those decided and aborting any undecided transaction that a district gave up before it was ready. For each item .."
@@ -210,3 +220,12 @@ Demand3 w =
 
 abbrev pub MarkedExamples : Type 0
 MarkedExamples = Example1 × Example2 × Example3 × Example4 × Example5 × Example6 × Example7 × Example8 × Example9 × Example10
+
+-- ==== all of it
+
+pub record Demands : Type 1 where
+  pub one : (w : ℕ) → Demand1 w
+  pub oneResult : OneResult
+  pub two : (w : ℕ) → Demand2 w
+  pub three : (w : ℕ) → Demand3 w
+  pub examples : MarkedExamples
