@@ -48,6 +48,10 @@ pub chosen-same : (b c : Book) (g : ℕ → Bool) (a i : ℕ) → itemOn c (item
     → chosenAt c g a i ≡ chosenAt b g a i
 chosen-same b c g a i e f k = rw (e, f, k)
 
+-- the item as it was, on the same transaction
+chosen-kept : (b c : Book) (g : ℕ → Bool) (a i : ℕ) → itemOn c (itemAt c i) ≡ itemOn b (itemAt b i) → itemAt c i ≡ itemAt b i → chosenAt c g a i ≡ chosenAt b g a i
+chosen-kept b c g a i e f = chosen-same b c g a i e (ap (λ (x : Item). at (inUse (x .held)) a) f) (ap (λ (x : Item). at (inUse (x .pending)) a) f)
+
 -- one value, on any
 pub chosen-one : (c : Book) (g : ℕ → Bool) (a i : ℕ) (v : ℤ) → heldAt c a i ≡ v → pendingAt c a i ≡ v → chosenAt c g a i ≡ v
 chosen-one c g a i v f k = rw (f, k) (by-cases (g (itemOn c (itemAt c i))) (λ e. rw e) (λ e. rw e))
@@ -57,16 +61,13 @@ module _ (w : ℕ) (b : Book) (t : Shaped w b) (g : ℕ → Bool) (a : ℕ) (s :
   x = itemAt b i
 
   pub ready-chosen : (n d : ℕ) → accepted (ready w b n d .answer) ≡ true → chosenAt (ready w b n d .book) g a i ≡ chosenAt b g a i
-  ready-chosen n d e =
-      chosen-same b _ g a i (ready-on w b t i h n d e) (ap (λ (y : Item). at (inUse (y .held)) a) (ready-keeps w b n d e i)) (ap (λ (y : Item). at (inUse (y .pending)) a) (ready-keeps w b n d e i))
+  ready-chosen n d e = chosen-kept b _ g a i (ready-on w b t i h n d e) (ready-keeps w b n d e i)
 
   pub complete-chosen : (n : ℕ) → accepted (complete w b n .answer) ≡ true → chosenAt (complete w b n .book) g a i ≡ chosenAt b g a i
-  complete-chosen n e =
-      chosen-same b _ g a i (complete-on w b t i h n e) (ap (λ (y : Item). at (inUse (y .held)) a) (complete-keeps w b n e i)) (ap (λ (y : Item). at (inUse (y .pending)) a) (complete-keeps w b n e i))
+  complete-chosen n e = chosen-kept b _ g a i (complete-on w b t i h n e) (complete-keeps w b n e i)
 
   pub abort-chosen : (n : ℕ) → accepted (abort w b n .answer) ≡ true → chosenAt (abort w b n .book) g a i ≡ chosenAt b g a i
-  abort-chosen n e =
-      chosen-same b _ g a i (abort-on w b t i h n e) (ap (λ (y : Item). at (inUse (y .held)) a) (abort-keeps w b n e i)) (ap (λ (y : Item). at (inUse (y .pending)) a) (abort-keeps w b n e i))
+  abort-chosen n e = chosen-kept b _ g a i (abort-on w b t i h n e) (abort-keeps w b n e i)
 
   -- the place of an open transaction is as guessed
   guessed : (n : ℕ) → placeOf w b n < w → member a (placeOf w b n) ≡ g n
