@@ -84,30 +84,31 @@ module _ (w : ℕ) (b : Book) (sound : Sound w b) (t : Shaped w b) (xs : List St
 
   -- ---- the rows afterwards
 
-  records : (e : ℕ) → e < b .districts → recordAt c e ≡ cond (touchesDistrict b xs e) (beginRecord n) (recordAt b e)
+  pub begin-records : (e : ℕ) → e < b .districts → recordAt (begun w b xs) e ≡ cond (touchesDistrict b xs e) (beginRecord (suc (b .last .0))) (recordAt b e)
   unfolding begun
-  records e h =
+  begin-records e h =
       getD-rows (λ d r. cond (touchesDistrict b xs d) (beginRecord n) r) noRecord (b .districts) (b .records) e h (omega (arith, sound .fewDistricts, t .records))
 
-  opens : (m : ℕ) → openAt c m ≡ cond (eqb m q) new (openAt b m)
+  pub begin-opens : (m : ℕ) → openAt (begun w b xs) m
+      ≡ cond (eqb m (freePlace w b)) (record { number = record { 0 = suc (b .last .0) }; touched = setOf mostDistricts (touchesDistrict b xs); ready = 0; gave = 0; decision = 0 }) (openAt b m)
   unfolding begun
-  opens m = getD-set (b .«open») q new noOpen m (omega (arith, f .place, t .places))
+  begin-opens m = getD-set (b .«open») q new noOpen m (omega (arith, f .place, t .places))
 
   here : (m : ℕ) → eqb m q ≡ true → openAt c m ≡ new
-  here m e = opens m ∙ rw e
+  here m e = begin-opens m ∙ rw e
 
   other : (m : ℕ) → eqb m q ≡ false → openAt c m ≡ openAt b m
-  other m e = opens m ∙ rw e
+  other m e = begin-opens m ∙ rw e
 
   -- ---- places
 
-  wasFree : isOpen (openAt b q) ≡ false
+  pub free-place : isOpen (openAt b (freePlace w b)) ≡ false
   unfolding freePlace
-  wasFree = not-true _ (first-passes w (λ m. not (isOpen (openAt b m))) (f .place))
+  free-place = not-true _ (first-passes w (λ m. not (isOpen (openAt b m))) (f .place))
 
   -- an open place is another
   apart : (m : ℕ) → isOpen (openAt b m) ≡ true → eqb m q ≡ false
-  apart m k = ne-eqb m q (λ e. true≢false (sym k ∙ rw e wasFree))
+  apart m k = ne-eqb m q (λ e. true≢false (sym k ∙ rw e free-place))
 
   -- the numbers at the places are given already
   given : (m : ℕ) → m < w → openAt b m .number .0 ≤ b .last .0
@@ -148,8 +149,8 @@ module _ (w : ℕ) (b : Book) (sound : Sound w b) (t : Shaped w b) (xs : List St
   districts : (e : ℕ) → e < b .districts → DistrictRow w e (placeOf w c (recordAt c e .transaction .0)) (openAt c (placeOf w c (recordAt c e .transaction .0))) (recordAt c e)
   districts e h =
       by-cases (touchesDistrict b xs e)
-      (λ k. rw (records e h, k, placeNew, here q (eq-eqb q q refl)) (begins e h k))
-      (λ k. rw (records e h, k) (district-stays w e _ _ _ _ (recordAt b e) (s .districts e h)
+      (λ k. rw (begin-records e h, k, placeNew, here q (eq-eqb q q refl)) (begins e h k))
+      (λ k. rw (begin-records e h, k) (district-stays w e _ _ _ _ (recordAt b e) (s .districts e h)
       (λ z. placeOld (recordAt b e .transaction .0) (s .districts e h .busyOpen z))
       (λ z. seen-same e _ _ (rowOld (recordAt b e .transaction .0) (s .districts e h .busyOpen z)))))
 
@@ -204,15 +205,15 @@ module _ (w : ℕ) (b : Book) (sound : Sound w b) (t : Shaped w b) (xs : List St
   itemElse i x k = rw k
 
   -- a touched item's district is touched, and all its items were on no transaction
-  touchedDistrict : (i : ℕ) → touches xs i ≡ true → touchesDistrict b xs (itemAt b i .district) ≡ true
+  pub touched-district : (i : ℕ) → touches xs i ≡ true → touchesDistrict b xs (itemAt b i .district) ≡ true
   unfolding touchesDistrict
-  touchedDistrict i k =
+  touched-district i k =
       any-of (b .count) (λ m. touches xs m && eqb (itemAt b m .district) (itemAt b i .district)) i (below i k)
       (ap₂ _&&_ k (eq-eqb (itemAt b i .district) (itemAt b i .district) refl))
 
-  wasIdle : (e : ℕ) → touchesDistrict b xs e ≡ true → (e < b .districts) × (recordOn (recordAt b e) ≡ 0)
+  pub touched-idle : (e : ℕ) → touchesDistrict b xs e ≡ true → (e < b .districts) × (recordOn (recordAt b e) ≡ 0)
   unfolding touchesDistrict someBusy itemOn
-  wasIdle e k =
+  touched-idle e k =
       let some = any-some (b .count) (λ i. touches xs i && eqb (itemAt b i .district) e) k in
       let i : ℕ = some .0 in
       let touched : touches xs i ≡ true = and-left (touches xs i) _ (some .2) in
@@ -224,11 +225,11 @@ module _ (w : ℕ) (b : Book) (sound : Sound w b) (t : Shaped w b) (xs : List St
 
   onNew : (x : Item) → touchesDistrict b xs (x .district) ≡ true → itemOn c x ≡ n
   unfolding itemOn recordOn
-  onNew x k = rw (records (x .district) (wasIdle (x .district) k .0), k)
+  onNew x k = rw (begin-records (x .district) (touched-idle (x .district) k .0), k)
 
   onOld : (x : Item) → x .district < b .districts → touchesDistrict b xs (x .district) ≡ false → itemOn c x ≡ itemOn b x
   unfolding itemOn
-  onOld x h k = rw (records (x .district) h, k)
+  onOld x h k = rw (begin-records (x .district) h, k)
 
   touchedFree : (i : ℕ) → touches xs i ≡ true → (j : ℕ) → ((m : ℕ) → m < b .count → itemDepends w (itemAt b m) j ≡ false)
       → itemDepends w (becomes (itemAt b i) (itemAt b i .held) (packed (results w b xs i))) j ≡ false
@@ -243,7 +244,7 @@ module _ (w : ℕ) (b : Book) (sound : Sound w b) (t : Shaped w b) (xs : List St
     held = sound .held i (below i k);
     pending = packed-sound w (results w b xs i) (results-formed i k);
     idleSame = λ z. absurd (omega arith);
-    ownFree = λ z. touchedFree i k q (s .freeUnused q (f .place) wasFree);
+    ownFree = λ z. touchedFree i k q (s .freeUnused q (f .place) free-place);
     fewTogether = rw (inUse-packed (results w b xs i)) (together-few i k);
   }
 
@@ -254,7 +255,7 @@ module _ (w : ℕ) (b : Book) (sound : Sound w b) (t : Shaped w b) (xs : List St
     held = sound .held i h;
     pending = sound .pending i h;
     idleSame = λ z. absurd (omega arith);
-    ownFree = λ z. s .freeUnused q (f .place) wasFree i h;
+    ownFree = λ z. s .freeUnused q (f .place) free-place i h;
     fewTogether = sound .fewTogether i h;
   }
 
@@ -265,8 +266,8 @@ module _ (w : ℕ) (b : Book) (sound : Sound w b) (t : Shaped w b) (xs : List St
       let busy = on-busy (recordAt b d) k in
       rw (busy .1) (placeOld (recordAt b d .transaction .0) (s .districts d (sound .belongs i h) .busyOpen (busy .0)))
 
-  notTouched : (i : ℕ) → touchesDistrict b xs (itemAt b i .district) ≡ false → touches xs i ≡ false
-  notTouched i k = by-cases (touches xs i) (λ z. absurd (true≢false (sym (touchedDistrict i z) ∙ k))) (λ z. z)
+  pub not-touched : (i : ℕ) → touchesDistrict b xs (itemAt b i .district) ≡ false → touches xs i ≡ false
+  not-touched i k = by-cases (touches xs i) (λ z. absurd (true≢false (sym (touched-district i z) ∙ k))) (λ z. z)
 
   items : (i : ℕ) → i < b .count → ItemRow w (b .districts) (itemOn c (itemAt c i)) (placeOf w c (itemOn c (itemAt c i))) (itemAt c i)
   items i h =
@@ -275,7 +276,7 @@ module _ (w : ℕ) (b : Book) (sound : Sound w b) (t : Shaped w b) (xs : List St
       (λ k. by-cases (touches xs i)
       (λ z. rw (begin-item w b sound t xs i h, itemTouched i x z, onNew (becomes x (x .held) (packed (results w b xs i))) k, placeNew) (touchedRow i z))
       (λ z. rw (begin-item w b sound t xs i h, itemElse i x z, onNew x k, placeNew) (besideRow i h)))
-      (λ k. rw (begin-item w b sound t xs i h, itemElse i x (notTouched i k))
+      (λ k. rw (begin-item w b sound t xs i h, itemElse i x (not-touched i k))
       (item-stays w (b .districts) _ _ _ _ x (s .items i h) (onOld x (sound .belongs i h) k) (λ z. ap (placeOf w c) (onOld x (sound .belongs i h) k) ∙ oldPlace i h z)))
 
   free : (j : ℕ) → j < b .count → (m : ℕ) → ((i : ℕ) → i < b .count → itemDepends w (itemAt b i) m ≡ false) → itemDepends w (itemAt c j) m ≡ false
@@ -292,7 +293,7 @@ module _ (w : ℕ) (b : Book) (sound : Sound w b) (t : Shaped w b) (xs : List St
 
   newRow : OpenRow (b .districts) n new
   newRow = record {
-    touched = set-below mostDistricts (b .districts) (touchesDistrict b xs) (sound .fewDistricts) (λ d h k. wasIdle d k .0);
+    touched = set-below mostDistricts (b .districts) (touchesDistrict b xs) (sound .fewDistricts) (λ d h k. touched-idle d k .0);
     ready = pow-pos (b .districts);
     gave = pow-pos (b .districts);
     decisions = omega arith;

@@ -32,6 +32,11 @@ module _ (w : ℕ) (b : Book) (s : SoundBut w b) (t : Shaped w b) (n : ℕ) (p :
   old : OpenRow (b .districts) (b .last .0) o
   old = s .opens q p (place-open w b n p)
 
+  -- the places afterwards
+  pub decide-opens : (v m : ℕ) → openAt (decide w b n v) m ≡ cond (eqb m (placeOf w b n)) (withDecision v (openOf w b n)) (openAt b m)
+  unfolding decide
+  decide-opens v m = getD-set (b .«open») q (withDecision v o) noOpen m (omega (arith, t .places))
+
   -- "a completed transaction has every touched district ready"
   pub decide-but : (v : ℕ) → v ≤ 2 → (v ≡ 1 → (d : ℕ) → d < b .districts → member (o .touched) d ≡ true → member (o .ready) d ≡ true) → SoundBut w (decide w b n v)
   unfolding decide itemOn
@@ -40,7 +45,7 @@ module _ (w : ℕ) (b : Book) (s : SoundBut w b) (t : Shaped w b) (n : ℕ) (p :
         place = p;
         wasOpen = place-open w b n p;
         number = refl;
-        opens = opens;
+        opens = decide-opens v;
         row = record {
           touched = old .touched;
           ready = old .ready;
@@ -59,11 +64,8 @@ module _ (w : ℕ) (b : Book) (s : SoundBut w b) (t : Shaped w b) (n : ℕ) (p :
         freeUnused = s .freeUnused;
       })
     where
-      opens : (m : ℕ) → openAt (decide w b n v) m ≡ cond (eqb m q) (withDecision v o) (openAt b m)
-      opens m = getD-set (b .«open») q (withDecision v o) noOpen m (omega (arith, t .places))
-
       seen : (e m : ℕ) → Seen e (openAt b m) (openAt (decide w b n v) m)
       seen e m =
           by-cases (eqb m q)
-          (λ z. rw (opens m, z, eqb-true m q z) (record { touched = refl; ready = refl; gave = refl }))
-          (λ z. seen-same e (openAt b m) (openAt (decide w b n v) m) (opens m ∙ rw z))
+          (λ z. rw (decide-opens v m, z, eqb-true m q z) (record { touched = refl; ready = refl; gave = refl }))
+          (λ z. seen-same e (openAt b m) (openAt (decide w b n v) m) (decide-opens v m ∙ rw z))

@@ -49,6 +49,18 @@ module _ (w : ℕ) (b : Book) (s : SoundBut w b) (t : Shaped w b) where
   still q (stays e n) k = (e, n)
   still q (freed e n) k = absurd (false≢true (rw e at k))
 
+  -- what is open afterwards is as it was
+  pub forget-open : (q : ℕ) → q < w → isOpen (openAt (forget w b) q) ≡ true → openAt (forget w b) q ≡ openAt b q
+  forget-open q h k = still q (fate q h) k .0
+
+  -- "a decided transaction is closed .. exactly when no district is on it and no held or pending polyvalue depends on it"
+  pub forget-is-open : (q : ℕ) → q < w → isOpen (openAt b q) ≡ true → isOpen (openAt (forget w b) q) ≡ (not (decided (openAt b q)) || needed w b q (openAt b q))
+  unfolding remembered
+  forget-is-open q h k =
+      rw (after q h) (by-cases (decided (openAt b q))
+      (λ d. rw d (by-cases (needed w b q (openAt b q)) (λ n. rw n k) (λ n. rw n)))
+      (λ d. rw d k))
+
   gone : (q : ℕ) → Fate q → q < w → isOpen (openAt c q) ≡ false → (openAt c q ≡ noOpen) × ((i : ℕ) → i < b .count → itemDepends w (itemAt b i) q ≡ false)
   unfolding needed someDepends
   gone q (stays e n) h k = let f : isOpen (openAt b q) ≡ false = rw e at k in (e ∙ s .free q h f, s .freeUnused q h f)

@@ -54,18 +54,20 @@ module _ (w : ℕ) (b : Book) (sound : Sound w b) (t : Shaped w b) (n d : ℕ) (
   was : DistrictRow w d q o r
   was = rw number at (s .districts d l)
 
-  records : (e : ℕ) → recordAt c e ≡ cond (eqb e d) noRecord (recordAt b e)
+  -- the records afterwards, and the places
+  pub give-up-records : (e : ℕ) → recordAt (gaveUp w b n d) e ≡ cond (eqb e d) noRecord (recordAt b e)
   unfolding gaveUp
-  records e = getD-set (b .records) d noRecord noRecord e (omega (arith, few d l, t .records))
+  give-up-records e = getD-set (b .records) d noRecord noRecord e (omega (arith, few d l, t .records))
 
   -- ---- the transaction
 
   abbrev new : Open
   new = cond early (marked d o) o
 
-  opens : (m : ℕ) → openAt c m ≡ cond (eqb m q) new (openAt b m)
+  pub give-up-opens : (m : ℕ) → openAt (gaveUp w b n d) m
+      ≡ cond (eqb m (placeOf w b n)) (cond (computingOn n (recordAt b d)) (marked d (openOf w b n)) (openOf w b n)) (openAt b m)
   unfolding gaveUp
-  opens m =
+  give-up-opens m =
       by-cases early
       (λ e. rw e (getD-set (b .«open») q (marked d o) noOpen m (omega (arith, t .places))))
       (λ e. rw e (by-cases (eqb m q) (λ z. rw (z, eqb-true m q z)) (λ z. rw z)))
@@ -106,14 +108,14 @@ module _ (w : ℕ) (b : Book) (sound : Sound w b) (t : Shaped w b) (n d : ℕ) (
   seen : (e m : ℕ) → e < b .districts → eqb e d ≡ false → Seen e (openAt b m) (openAt c m)
   seen e m h k =
       by-cases (eqb m q)
-      (λ z. rw (opens m, z, eqb-true m q z) (newSeen e h k))
-      (λ z. seen-same e (openAt b m) (openAt c m) (opens m ∙ rw z))
+      (λ z. rw (give-up-opens m, z, eqb-true m q z) (newSeen e h k))
+      (λ z. seen-same e (openAt b m) (openAt c m) (give-up-opens m ∙ rw z))
 
   districts : (e : ℕ) → e < b .districts → DistrictRow w e (placeOf w b (recordAt c e .transaction .0)) (openAt c (placeOf w b (recordAt c e .transaction .0))) (recordAt c e)
   districts e h =
       by-cases (eqb e d)
-      (λ k. rw (records e, k, eqb-true e d k) (idle-district w d _ _))
-      (λ k. rw (records e, k) (district-stays w e _ _ _ _ (recordAt b e) (s .districts e h) (λ z. refl) (λ z. seen e _ h k)))
+      (λ k. rw (give-up-records e, k, eqb-true e d k) (idle-district w d _ _))
+      (λ k. rw (give-up-records e, k) (district-stays w e _ _ _ _ (recordAt b e) (s .districts e h) (λ z. refl) (λ z. seen e _ h k)))
 
   -- ---- items
 
@@ -134,11 +136,11 @@ module _ (w : ℕ) (b : Book) (sound : Sound w b) (t : Shaped w b) (n d : ℕ) (
 
   onThere : (x : Item) → there d x ≡ true → itemOn c x ≡ 0
   unfolding itemOn recordOn
-  onThere x k = rw (records (x .district), k)
+  onThere x k = rw (give-up-records (x .district), k)
 
   onElse : (x : Item) → there d x ≡ false → itemOn c x ≡ itemOn b x
   unfolding itemOn
-  onElse x k = rw (records (x .district), k)
+  onElse x k = rw (give-up-records (x .district), k)
 
   settledRow : (m u : ℕ) (x : Item) → ItemRow w (b .districts) m u x → there d x ≡ true → (v : ℕ) → ItemRow w (b .districts) (itemOn c (settled x)) v (settled x)
   unfolding split
@@ -182,11 +184,11 @@ module _ (w : ℕ) (b : Book) (sound : Sound w b) (t : Shaped w b) (n d : ℕ) (
         place = p;
         wasOpen = place-open w b n p;
         number = by-cases early (λ e. rw e) (λ e. rw e);
-        opens = opens;
+        opens = give-up-opens;
         row = row;
         districts = districts;
         items = items;
-        pastDistricts = λ e h k. records e ∙ rw (ne-eqb e d (λ z. omega arith)) (s .pastDistricts e h k);
+        pastDistricts = λ e h k. give-up-records e ∙ rw (ne-eqb e d (λ z. omega arith)) (s .pastDistricts e h k);
         pastItems = λ i h k. past i k ∙ s .pastItems i h k;
         freeUnused = freeUnused;
       })

@@ -43,18 +43,19 @@ module _ (w : ℕ) (b : Book) (sound : Sound w b) (t : Shaped w b) (n d : ℕ) (
   few : (e : ℕ) → e < b .districts → e < mostDistricts
   few e h = omega (arith, sound .fewDistricts)
 
-  records : (e : ℕ) → recordAt c e ≡ cond (eqb e d) (hearRecord n r) (recordAt b e)
+  -- the records afterwards
+  pub hear-records : (e : ℕ) → recordAt (heard w b n d) e ≡ cond (eqb e d) (hearRecord n (recordAt b d)) (recordAt b e)
   unfolding heard
-  records e = getD-set (b .records) d (hearRecord n r) noRecord e (omega (arith, few d l, t .records))
+  hear-records e = getD-set (b .records) d (hearRecord n r) noRecord e (omega (arith, few d l, t .records))
 
   -- the record of a district that is not busy on it, also of another one, stays
   left : (e : ℕ) → (eqb e d ≡ true → busyOn n r ≡ false) → recordAt c e ≡ recordAt b e
   unfolding hearRecord
-  left e f = records e ∙ by-cases (eqb e d) (λ k. rw (k, f k, eqb-true e d k)) (λ k. rw k)
+  left e f = hear-records e ∙ by-cases (eqb e d) (λ k. rw (k, f k, eqb-true e d k)) (λ k. rw k)
 
   idles : (e : ℕ) → eqb e d ≡ true → busyOn n r ≡ true → recordAt c e ≡ noRecord
   unfolding hearRecord
-  idles e k z = records e ∙ rw (k, z)
+  idles e k z = hear-records e ∙ rw (k, z)
 
   -- ---- districts
 
@@ -151,7 +152,7 @@ module _ (w : ℕ) (b : Book) (sound : Sound w b) (t : Shaped w b) (n d : ℕ) (
         row = s .opens q p (place-open w b n p);
         districts = districts;
         items = items;
-        pastDistricts = λ e h k. records e ∙ rw (ne-eqb e d (λ z. omega arith)) (s .pastDistricts e h k);
+        pastDistricts = λ e h k. hear-records e ∙ rw (ne-eqb e d (λ z. omega arith)) (s .pastDistricts e h k);
         pastItems = λ i h k. past i k ∙ s .pastItems i h k;
         freeUnused = freeUnused;
       })

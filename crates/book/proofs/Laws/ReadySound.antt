@@ -55,13 +55,14 @@ module _ (w : ℕ) (b : Book) (s : SoundBut w b) (t : Shaped w b) (n d : ℕ) (p
   was : DistrictRow w d q o r
   was = rw number at (s .districts d l)
 
-  records : (e : ℕ) → recordAt c e ≡ cond (eqb e d) (readyRecord r) (recordAt b e)
+  -- the records afterwards, and the places
+  pub ready-records : (e : ℕ) → recordAt (readied w b n d) e ≡ cond (eqb e d) (readyRecord (recordAt b d)) (recordAt b e)
   unfolding readied
-  records e = getD-set (b .records) d (readyRecord r) noRecord e (omega (arith, few d l, t .records))
+  ready-records e = getD-set (b .records) d (readyRecord r) noRecord e (omega (arith, few d l, t .records))
 
-  opens : (m : ℕ) → openAt c m ≡ cond (eqb m q) (reported d o) (openAt b m)
+  pub ready-opens : (m : ℕ) → openAt (readied w b n d) m ≡ cond (eqb m (placeOf w b n)) (reported d (openOf w b n)) (openAt b m)
   unfolding readied
-  opens m = getD-set (b .«open») q (reported d o) noOpen m (omega (arith, t .places))
+  ready-opens m = getD-set (b .«open») q (reported d o) noOpen m (omega (arith, t .places))
 
   -- the row of the transaction
   old : OpenRow (b .districts) (b .last .0) o
@@ -105,14 +106,14 @@ module _ (w : ℕ) (b : Book) (s : SoundBut w b) (t : Shaped w b) (n d : ℕ) (p
   seen : (e m : ℕ) → e < b .districts → eqb e d ≡ false → Seen e (openAt b m) (openAt c m)
   seen e m h k =
       by-cases (eqb m q)
-      (λ z. rw (opens m, z, eqb-true m q z) (record { touched = refl; ready = including-other (o .ready) d e (few e h) k; gave = refl }))
-      (λ z. seen-same e (openAt b m) (openAt c m) (opens m ∙ rw z))
+      (λ z. rw (ready-opens m, z, eqb-true m q z) (record { touched = refl; ready = including-other (o .ready) d e (few e h) k; gave = refl }))
+      (λ z. seen-same e (openAt b m) (openAt c m) (ready-opens m ∙ rw z))
 
   districts : (e : ℕ) → e < b .districts → DistrictRow w e (placeOf w b (recordAt c e .transaction .0)) (openAt c (placeOf w b (recordAt c e .transaction .0))) (recordAt c e)
   districts e h =
       by-cases (eqb e d)
-      (λ k. rw (records e, k, eqb-true e d k, number, opens q, eq-eqb q q refl) own)
-      (λ k. rw (records e, k) (district-stays w e _ _ _ _ (recordAt b e) (s .districts e h) (λ z. refl) (λ z. seen e _ h k)))
+      (λ k. rw (ready-records e, k, eqb-true e d k, number, ready-opens q, eq-eqb q q refl) own)
+      (λ k. rw (ready-records e, k) (district-stays w e _ _ _ _ (recordAt b e) (s .districts e h) (λ z. refl) (λ z. seen e _ h k)))
 
   -- ---- items
 
@@ -120,8 +121,8 @@ module _ (w : ℕ) (b : Book) (s : SoundBut w b) (t : Shaped w b) (n d : ℕ) (p
   unfolding itemOn recordOn
   itemsOn x =
       by-cases (eqb (x .district) d)
-      (λ k. rw (records (x .district), k, eqb-true (x .district) d k, busy))
-      (λ k. rw (records (x .district), k))
+      (λ k. rw (ready-records (x .district), k, eqb-true (x .district) d k, busy))
+      (λ k. rw (ready-records (x .district), k))
 
   pub ready-but : SoundBut w (readied w b n d)
   unfolding readied
@@ -130,11 +131,11 @@ module _ (w : ℕ) (b : Book) (s : SoundBut w b) (t : Shaped w b) (n d : ℕ) (p
         place = p;
         wasOpen = place-open w b n p;
         number = refl;
-        opens = opens;
+        opens = ready-opens;
         row = row;
         districts = districts;
         items = λ i h. item-stays w (b .districts) _ _ _ _ (itemAt b i) (s .items i h) (itemsOn (itemAt b i)) (λ z. ap (placeOf w b) (itemsOn (itemAt b i)));
-        pastDistricts = λ e h k. records e ∙ rw (ne-eqb e d (λ z. omega arith)) (s .pastDistricts e h k);
+        pastDistricts = λ e h k. ready-records e ∙ rw (ne-eqb e d (λ z. omega arith)) (s .pastDistricts e h k);
         pastItems = s .pastItems;
         freeUnused = s .freeUnused;
       })

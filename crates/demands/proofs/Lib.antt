@@ -1,0 +1,16 @@
+mod Acts
+mod Tables
+mod Items
+mod Assignments
+mod Ledger
+mod Marking
+mod Guesses
+mod Choosing
+mod Beginning
+mod Invariant
+mod Opening
+pub mod Demand3
+pub mod Demand1
+pub mod Demand2
+pub mod Examples
+pub mod All

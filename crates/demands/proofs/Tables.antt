@@ -1,0 +1,224 @@
+-- For each call, what an accepted one makes of the districts' records and of the places.
+use mathlib.Core.Path.{_≡_, refl, sym, _∙_, ap}
+use mathlib.Core.Bool.{true, not, _||_, cond, true≢false}
+use mathlib.Core.List.{List}
+use Prim.Native.Nat.{ℕ, suc, _<_}
+use native.Mathlib.Omega.{arith}
+use lib.Dec.{eqb}
+use borrow.Author.Tests.{eqb-true}
+use Rattle.conditions.specs.Sets.{setOf}
+use Rattle.conditions.proofs.Laws.Below.{by-cases}
+use Rattle.book.specs.declared.Book.{Book}
+use Rattle.book.specs.declared.Open.{Open}
+use Rattle.conditions.specs.declared.place.TransactionNumber.{TransactionNumber}
+use Rattle.book.specs.Answers.{accepted}
+use Rattle.book.specs.Book.{mostDistricts, noRecord, recordAt, openAt, isOpen, placeOf, freePlace}
+use Rattle.book.specs.Programs.{steps}
+use Rattle.book.specs.Records.{computingOn, beginRecord, readyRecord, hearRecord}
+use Rattle.book.specs.Forget.{decided, needed}
+use Rattle.book.specs.Transactions.{openOf, done}
+use Rattle.book.specs.Sound.{Sound}
+use Rattle.book.specs.Begin.{grant, touchesDistrict, begun, begin}
+use Rattle.book.specs.Ready.{readyAnswer, reported, readied, ready}
+use Rattle.book.specs.GiveUp.{giveUpAnswer, marked, gaveUp, giveUp}
+use Rattle.book.specs.Decide.{completeAnswer, abortAnswer, withDecision, decide, complete, abort}
+use Rattle.book.specs.Hear.{hearAnswer, heard, hear}
+use Rattle.book.proofs.Laws.Shaped.{Shaped}
+use Rattle.book.proofs.Laws.But.{sound-but}
+use Rattle.book.proofs.Laws.ReadySound.{ready-shaped, ready-records, ready-opens, ready-but}
+use Rattle.book.proofs.Laws.GiveUpSound.{give-up-shaped, give-up-records, give-up-opens, give-up-but}
+use Rattle.book.proofs.Laws.DecideSound.{decide-shaped, decide-opens, decide-but}
+use Rattle.book.proofs.Laws.HearSound.{hear-shaped, hear-records, hear-but}
+use Rattle.book.proofs.Laws.BeginSound.{Begins, begin-shaped, begin-records, begin-opens, free-place, begin-but}
+use Rattle.book.proofs.Laws.Calls.{Whole, Readies, GivesUp, Completes, Aborts, Hears, done-accepted, begin-accepted, ready-tests, give-up-tests, complete-tests, abort-tests, hear-tests, begin-tests, ready-whole, give-up-whole, complete-whole, abort-whole, hear-whole, begin-whole}
+use Rattle.demands.proofs.Acts.{Left, left, Acts, acts}
+
+module _ (w : ℕ) (b : Book) (t : Shaped w b) where
+  -- ---- ready
+
+  module _ (n d : ℕ) (e : accepted (ready w b n d .answer) ≡ true) where
+    pub ready-facts : Readies w b n d
+    unfolding ready done
+    ready-facts = ready-tests w b n d e
+
+    readyLeft : Left w (readied w b n d) (ready w b n d .book)
+    unfolding ready done
+    readyLeft = let f = ready-facts in
+        left w (readied w b n d) _ (done-accepted w (readyAnswer w b n d) (readied w b n d) b e)
+        (ready-but w b (sound-but w b (f .sound)) t n d (f .place) (f .district) (f .on)) (ready-shaped w b n d t)
+
+    pub ready-acts : Acts w b (ready w b n d .book) n (reported d (openOf w b n))
+    unfolding readied
+    ready-acts =
+        let f = ready-facts in
+        acts w b (readied w b n d) _ n _ (f .sound) (ready-whole w b n d (record { sound = f .sound; shaped = t })) (f .place) refl readyLeft refl refl refl
+        (ready-opens w b (sound-but w b (f .sound)) t n d (f .place) (f .district) (f .on))
+
+    pub ready-record : (x : ℕ) → recordAt (ready w b n d .book) x ≡ cond (eqb x d) (readyRecord (recordAt b x)) (recordAt b x)
+    ready-record x = let f = ready-facts in
+        readyLeft .records x ∙ ready-records w b (sound-but w b (f .sound)) t n d (f .place) (f .district) (f .on) x
+        ∙ by-cases (eqb x d) (λ k. rw (k, eqb-true x d k)) (λ k. rw k)
+
+  -- ---- give up
+
+  module _ (n d : ℕ) (e : accepted (giveUp w b n d .answer) ≡ true) where
+    pub give-up-facts : GivesUp w b n d
+    unfolding giveUp done
+    give-up-facts = give-up-tests w b n d e
+
+    giveUpLeft : Left w (gaveUp w b n d) (giveUp w b n d .book)
+    unfolding giveUp done
+    giveUpLeft = let f = give-up-facts in
+        left w (gaveUp w b n d) _ (done-accepted w (giveUpAnswer w b n d) (gaveUp w b n d) b e)
+        (give-up-but w b (f .sound) t n d (f .place) (f .district) (f .on)) (give-up-shaped w b (f .sound) t n d (f .place) (f .district) (f .on))
+
+    pub give-up-acts : Acts w b (giveUp w b n d .book) n (cond (computingOn n (recordAt b d)) (marked d (openOf w b n)) (openOf w b n))
+    unfolding gaveUp
+    give-up-acts =
+        let f = give-up-facts in
+        acts w b (gaveUp w b n d) _ n _ (f .sound) (give-up-whole w b n d (record { sound = f .sound; shaped = t })) (f .place) (by-cases (computingOn n (recordAt b d)) (λ k. rw k) (λ k. rw k)) giveUpLeft refl refl refl
+        (give-up-opens w b (f .sound) t n d (f .place) (f .district) (f .on))
+
+    pub give-up-record : (x : ℕ) → recordAt (giveUp w b n d .book) x ≡ cond (eqb x d) noRecord (recordAt b x)
+    give-up-record x = let f = give-up-facts in giveUpLeft .records x ∙ give-up-records w b (f .sound) t n d (f .place) (f .district) (f .on) x
+
+  -- ---- complete
+
+  module _ (n : ℕ) (e : accepted (complete w b n .answer) ≡ true) where
+    pub complete-facts : Completes w b n
+    unfolding complete done
+    complete-facts = complete-tests w b n e
+
+    completeLeft : Left w (decide w b n 1) (complete w b n .book)
+    unfolding complete done
+    completeLeft = let f = complete-facts in
+        left w (decide w b n 1) _ (done-accepted w (completeAnswer w b n) (decide w b n 1) b e)
+        (decide-but w b (sound-but w b (f .sound)) t n (f .place) 1 (omega arith) (λ k. f .ready)) (decide-shaped w b n 1 t)
+
+    pub complete-acts : Acts w b (complete w b n .book) n (withDecision 1 (openOf w b n))
+    unfolding decide
+    complete-acts =
+        let f = complete-facts in
+        acts w b (decide w b n 1) _ n _ (f .sound) (complete-whole w b n (record { sound = f .sound; shaped = t })) (f .place) refl completeLeft refl refl refl
+        (decide-opens w b (sound-but w b (f .sound)) t n (f .place) 1)
+
+    pub complete-record : (x : ℕ) → recordAt (complete w b n .book) x ≡ recordAt b x
+    unfolding decide
+    complete-record x = completeLeft .records x
+
+  -- ---- abort
+
+  module _ (n : ℕ) (e : accepted (abort w b n .answer) ≡ true) where
+    pub abort-facts : Aborts w b n
+    unfolding abort done
+    abort-facts = abort-tests w b n e
+
+    abortLeft : Left w (decide w b n 2) (abort w b n .book)
+    unfolding abort done
+    abortLeft = let f = abort-facts in
+        left w (decide w b n 2) _ (done-accepted w (abortAnswer w b n) (decide w b n 2) b e)
+        (decide-but w b (sound-but w b (f .sound)) t n (f .place) 2 (omega arith) (λ k. absurd (omega arith))) (decide-shaped w b n 2 t)
+
+    pub abort-acts : Acts w b (abort w b n .book) n (withDecision 2 (openOf w b n))
+    unfolding decide
+    abort-acts =
+        let f = abort-facts in
+        acts w b (decide w b n 2) _ n _ (f .sound) (abort-whole w b n (record { sound = f .sound; shaped = t })) (f .place) refl abortLeft refl refl refl
+        (decide-opens w b (sound-but w b (f .sound)) t n (f .place) 2)
+
+    pub abort-record : (x : ℕ) → recordAt (abort w b n .book) x ≡ recordAt b x
+    unfolding decide
+    abort-record x = abortLeft .records x
+
+  -- ---- hear
+
+  module _ (n d : ℕ) (e : accepted (hear w b n d .answer) ≡ true) where
+    pub hear-facts : Hears w b n d
+    unfolding hear done
+    hear-facts = hear-tests w b n d e
+
+    hearLeft : Left w (heard w b n d) (hear w b n d .book)
+    unfolding hear done
+    hearLeft = let f = hear-facts in
+        left w (heard w b n d) _ (done-accepted w (hearAnswer w b n d) (heard w b n d) b e)
+        (hear-but w b (f .sound) t n d (f .place) (f .district)) (hear-shaped w b (f .sound) t n d (f .place) (f .district))
+
+    hearOpens : (q : ℕ) → openAt (heard w b n d) q ≡ cond (eqb q (placeOf w b n)) (openOf w b n) (openAt b q)
+    unfolding heard
+    hearOpens q = by-cases (eqb q (placeOf w b n)) (λ z. rw (z, eqb-true q (placeOf w b n) z)) (λ z. rw z)
+
+    pub hear-acts : Acts w b (hear w b n d .book) n (openOf w b n)
+    unfolding heard
+    hear-acts =
+        let f = hear-facts in
+        acts w b (heard w b n d) _ n _ (f .sound) (hear-whole w b n d (record { sound = f .sound; shaped = t })) (f .place) refl hearLeft refl refl refl
+        (hearOpens)
+
+    pub hear-record : (x : ℕ) → recordAt (hear w b n d .book) x ≡ cond (eqb x d) (hearRecord n (recordAt b x)) (recordAt b x)
+    hear-record x = let f = hear-facts in
+        hearLeft .records x ∙ hear-records w b (f .sound) t n d (f .place) (f .district) x
+        ∙ by-cases (eqb x d) (λ k. rw (k, eqb-true x d k)) (λ k. rw k)
+
+  -- ---- begin
+
+  module _ (bytes : List ℕ) (e : accepted (begin w b bytes .answer) ≡ true) where
+    pub begin-facts : (Sound w b) × (Begins w b (steps bytes))
+    unfolding begin
+    begin-facts = begin-tests w b bytes e
+
+    beginLeft : Left w (begun w b (steps bytes)) (begin w b bytes .book)
+    beginLeft = let f = begin-facts in
+        left w (begun w b (steps bytes)) _ (begin-accepted w b bytes e)
+        (begin-but w b (f .0) t (steps bytes) (f .1)) (begin-shaped w b (f .0) t (steps bytes) (f .1))
+
+    pub begin-after : Whole w (begin w b bytes .book)
+    begin-after = begin-whole w b bytes (record { sound = begin-facts .0; shaped = t })
+
+    pub begin-last : begin w b bytes .book .last .0 ≡ suc (b .last .0)
+    unfolding begun
+    begin-last = ap (λ (x : TransactionNumber). x .0) (beginLeft .last)
+
+    pub begin-number : begin w b bytes .number .0 ≡ suc (b .last .0)
+    unfolding begin
+    begin-number = rw e
+
+    pub begin-grant : begin w b bytes .grant ≡ grant w b (steps bytes)
+    unfolding begin
+    begin-grant = rw e
+
+    pub begin-districts : begin w b bytes .book .districts ≡ b .districts
+    unfolding begun
+    begin-districts = beginLeft .districts
+
+    pub begin-count : begin w b bytes .book .count ≡ b .count
+    unfolding begun
+    begin-count = beginLeft .count
+
+    pub begin-record : (d : ℕ) → d < b .districts
+        → recordAt (begin w b bytes .book) d ≡ cond (touchesDistrict b (steps bytes) d) (beginRecord (suc (b .last .0))) (recordAt b d)
+    begin-record d h = beginLeft .records d ∙ begin-records w b (begin-facts .0) t (steps bytes) (begin-facts .1) d h
+
+    -- the row of the transaction that begins
+    abbrev pub begin-row : Open
+    begin-row = record {
+      number = record { 0 = suc (b .last .0) };
+      touched = setOf mostDistricts (touchesDistrict b (steps bytes));
+      ready = 0;
+      gave = 0;
+      decision = 0;
+    }
+
+    pub begin-places : (q : ℕ) → q < w → isOpen (openAt (begin w b bytes .book) q) ≡ true
+        → openAt (begin w b bytes .book) q ≡ cond (eqb q (freePlace w b)) begin-row (openAt b q)
+    begin-places q h k = beginLeft .opens q h k ∙ begin-opens w b (begin-facts .0) t (steps bytes) (begin-facts .1) q
+
+    -- no transaction that was open is forgotten but as it must be
+    pub begin-stays : (q : ℕ) → q < w → isOpen (openAt b q) ≡ true
+        → isOpen (openAt (begin w b bytes .book) q) ≡ (not (decided (openAt b q)) || needed w (begin w b bytes .book) q (openAt b q))
+    begin-stays q h k =
+        let f = begin-facts in
+        let same : openAt (begun w b (steps bytes)) q ≡ openAt b q = begin-opens w b (f .0) t (steps bytes) (f .1) q
+        ∙ by-cases (eqb q (freePlace w b))
+        (λ z. absurd (true≢false (sym k ∙ rw (eqb-true q (freePlace w b) z) (free-place w b (f .0) t (steps bytes) (f .1)))))
+        (λ z. rw z) in
+        rw same at (beginLeft .stays q h (rw same k))
