@@ -1,0 +1,128 @@
+//! What an event and its answer mean, in a sentence for the desk.
+
+use crate::answer::{Answer, Pair};
+use crate::names::Names;
+use crate::print;
+use crate::sheet::Event;
+
+/// `None` if the event never gives this answer.
+pub fn explain(names: &Names, event: &Event, answer: &Answer) -> Option<String> {
+    let said = match *answer {
+        Answer::Done => done(names, event)?,
+        Answer::Begun { hold, grant } => begun(hold, grant),
+        Answer::Shown(ref pairs) => shown(pairs),
+        Answer::Refused(number) => format!("refused, {}", refused(names, event, number)?),
+    };
+    Some(format!("{}: {said}", print::event(names, event)))
+}
+
+fn done(names: &Names, event: &Event) -> Option<String> {
+    match *event {
+        Event::Begin(_) | Event::Show { .. } => None,
+        Event::Ready { hold, district } => Some(format!(
+            "{} waits to hear of hold {hold}",
+            names.district(district)
+        )),
+        Event::GiveUp { district, .. } => Some(format!("{} is idle", names.district(district))),
+        Event::Complete { hold } => Some(format!("hold {hold} is completed")),
+        Event::Abort { hold } => Some(format!("hold {hold} is aborted")),
+        Event::Hear { hold, district } => Some(format!(
+            "{} knows the outcome of hold {hold}",
+            names.district(district)
+        )),
+    }
+}
+
+fn begun(hold: u16, grant: u8) -> String {
+    match grant {
+        0 => format!("hold {hold} begins, but it is declined"),
+        1 => format!("hold {hold} begins, granted"),
+        _ => format!("hold {hold} begins, granted or declined as other holds turn out"),
+    }
+}
+
+/// "4 if hold 1 completes, 5 if it does not".
+fn shown(pairs: &[Pair]) -> String {
+    if let [pair] = pairs {
+        return pair.value.to_string();
+    }
+    if let Some(said) = two_ways(pairs) {
+        return said;
+    }
+    let said: Vec<_> = pairs
+        .iter()
+        .map(|pair| format!("{} if {}", pair.value, pair.condition.words()))
+        .collect();
+    // A comma inside a pair needs a stronger mark between the pairs.
+    let comma_inside = said.iter().any(|said| said.contains(','));
+    said.join(if comma_inside { "; " } else { ", " })
+}
+
+/// Two values that hang on one hold.
+fn two_ways(pairs: &[Pair]) -> Option<String> {
+    let [first, second] = pairs else {
+        return None;
+    };
+    let tag = first.condition.only_tag()?;
+    let other = second.condition.only_tag()?;
+    if tag.hold != other.hold || tag.completes == other.completes {
+        return None;
+    }
+    let otherwise = if other.completes { "does" } else { "does not" };
+    Some(format!(
+        "{} if {}, {} if it {otherwise}",
+        first.value,
+        first.condition.words(),
+        second.value
+    ))
+}
+
+/// Document 01's table, for the events that each row can come from.
+fn refused(names: &Names, event: &Event, number: u8) -> Option<String> {
+    let district_of = |district| names.district(district);
+    Some(match (number, event) {
+        (
+            1,
+            Event::Ready { district, .. }
+            | Event::GiveUp { district, .. }
+            | Event::Hear { district, .. },
+        ) => format!("there is no district {district}"),
+        (2, Event::Begin(_)) => "a step names an item that is not there".to_string(),
+        (2, Event::Show { item }) => format!("there is no item {item}"),
+        (3, Event::Begin(steps)) if steps.is_empty() => "there is no step".to_string(),
+        (3, Event::Begin(steps)) if steps.len() > 8 => {
+            format!("{} steps are more than 8", steps.len())
+        }
+        (3, Event::Begin(_)) => {
+            "a step is of unknown kind or its number is not from -9999 to 9999".to_string()
+        }
+        (
+            4,
+            Event::Ready { hold, .. }
+            | Event::GiveUp { hold, .. }
+            | Event::Complete { hold }
+            | Event::Abort { hold }
+            | Event::Hear { hold, .. },
+        ) => format!("no open hold has number {hold}"),
+        (5, Event::Begin(_)) => "a district it touches is busy".to_string(),
+        (6, Event::Begin(_)) => "six holds are open already".to_string(),
+        (7, Event::Begin(_)) => "the last number, 65535, has been given".to_string(),
+        (8, Event::Begin(_)) => "an item would have more than 8 values".to_string(),
+        (9, Event::Ready { hold, district }) => {
+            format!("{} is not computing on hold {hold}", district_of(*district))
+        }
+        (9, Event::GiveUp { hold, district }) => {
+            format!("{} is not busy on hold {hold}", district_of(*district))
+        }
+        (10, Event::Complete { hold } | Event::Abort { hold }) => {
+            format!("hold {hold} is decided already")
+        }
+        (11, Event::Complete { hold }) => {
+            format!("a district that hold {hold} touches has not reported ready")
+        }
+        (12, Event::Hear { hold, .. }) => format!("hold {hold} is not decided yet"),
+        (15, _) => "the store's book is not sound".to_string(),
+        (16, Event::Show { .. }) => "the line is too long to print".to_string(),
+        _ => return None,
+    })
+}
