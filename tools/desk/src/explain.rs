@@ -3,9 +3,11 @@
 use crate::answer::{Answer, Pair};
 use crate::names::Names;
 use crate::print;
+use crate::program::{missing_item, not_a_program};
 use crate::sheet::Event;
 
-/// `None` if the event never gives this answer.
+/// `None` if the event, with this sheet's districts and items, never gives this
+/// answer.
 pub fn explain(names: &Names, event: &Event, answer: &Answer) -> Option<String> {
     let said = match *answer {
         Answer::Done => done(names, event)?,
@@ -86,16 +88,12 @@ fn refused(names: &Names, event: &Event, number: u8) -> Option<String> {
             Event::Ready { district, .. }
             | Event::GiveUp { district, .. }
             | Event::Hear { district, .. },
-        ) => format!("there is no district {district}"),
-        (2, Event::Begin(_)) => "a step names an item that is not there".to_string(),
-        (2, Event::Show { item }) => format!("there is no item {item}"),
-        (3, Event::Begin(steps)) if steps.is_empty() => "there is no step".to_string(),
-        (3, Event::Begin(steps)) if steps.len() > 8 => {
-            format!("{} steps are more than 8", steps.len())
+        ) if !names.has_district(*district) => format!("there is no district {district}"),
+        (2, Event::Begin(steps)) => missing_item(names, steps)?,
+        (2, Event::Show { item }) if !names.has_item(i16::from(*item)) => {
+            format!("there is no item {item}")
         }
-        (3, Event::Begin(_)) => {
-            "a step is of unknown kind or its number is not from -9999 to 9999".to_string()
-        }
+        (3, Event::Begin(steps)) => not_a_program(steps)?,
         (
             4,
             Event::Ready { hold, .. }

@@ -9,6 +9,7 @@ pub mod condition;
 pub mod explain;
 pub mod names;
 pub mod print;
+pub mod program;
 pub mod run;
 pub mod sheet;
 pub mod text;

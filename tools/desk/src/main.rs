@@ -9,7 +9,7 @@ use desk::beside::{self, Beside};
 use desk::binary;
 use desk::names::Names;
 use desk::print;
-use desk::run::run;
+use desk::run::{run, Ran};
 use desk::text::{self, Text};
 
 const USAGE: &str = "desk write [FILE]         a sheet as text to its bytes
@@ -100,17 +100,18 @@ fn play(program: &str, file: Option<&str>) -> Result<(), String> {
             (sheet, names)
         }),
     };
-    let output = run(program, bytes)?;
+    let Ran { output, failure } = run(program, bytes)?;
     let Beside { text, misfit } = match sheet {
         Ok((sheet, names)) => beside::of_sheet(&sheet, &names, &output),
         Err(refused) => beside::of_refused(&refused, &output),
     };
     print_out(text.as_bytes())?;
-    match misfit {
-        None => Ok(()),
-        Some(misfit) => Err(format!(
-            "the output of {program} does not fit the sheet: {misfit}"
-        )),
+    let misfit = misfit.map(|why| format!("the output of {program} does not fit the sheet: {why}"));
+    let faults: Vec<_> = [misfit, failure].into_iter().flatten().collect();
+    if faults.is_empty() {
+        Ok(())
+    } else {
+        Err(faults.join("\n"))
     }
 }
 

@@ -56,6 +56,15 @@ impl Names {
         Ok(())
     }
 
+    pub fn has_district(&self, number: u8) -> bool {
+        usize::from(number) < self.districts.len()
+    }
+
+    /// Also for a copy's operand, which may be below zero.
+    pub fn has_item(&self, number: i16) -> bool {
+        usize::try_from(number).is_ok_and(|number| number < self.items.len())
+    }
+
     pub fn find_district(&self, name: &str) -> Result<u8, String> {
         match self.districts.iter().position(|known| known == name) {
             Some(number) => Ok(number as u8),

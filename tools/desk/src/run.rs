@@ -4,9 +4,14 @@ use std::io::{self, Write};
 use std::process::{Command, Stdio};
 use std::thread;
 
-/// What the program prints on standard output. Its standard error stays the
-/// desk's own.
-pub fn run(program: &str, sheet: Vec<u8>) -> Result<String, String> {
+pub struct Ran {
+    pub output: String,
+    /// How it ended, if not well. Its output may be good all the same.
+    pub failure: Option<String>,
+}
+
+/// The program's standard error stays the desk's own.
+pub fn run(program: &str, sheet: Vec<u8>) -> Result<Ran, String> {
     let cannot = |error: io::Error| format!("cannot run {program}: {error}");
     let mut child = Command::new(program)
         .stdin(Stdio::piped())
@@ -22,10 +27,11 @@ pub fn run(program: &str, sheet: Vec<u8>) -> Result<String, String> {
             let _ = input.write_all(&sheet);
         }
     });
-    let output = child.wait_with_output().map_err(cannot)?;
+    let ended = child.wait_with_output().map_err(cannot)?;
     let _ = writer.join();
-    if !output.status.success() {
-        return Err(format!("{program} failed: {}", output.status));
-    }
-    String::from_utf8(output.stdout).map_err(|_| format!("{program} prints what is not text"))
+    let output = String::from_utf8(ended.stdout)
+        .map_err(|_| format!("the output of {program} is not text"))?;
+    let failure =
+        (!ended.status.success()).then(|| format!("{program} ended with {}", ended.status));
+    Ok(Ran { output, failure })
 }

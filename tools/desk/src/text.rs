@@ -100,7 +100,7 @@ impl Reader {
         if self.sheet.district_codes.len() == MOST_DISTRICTS {
             return Err(format!("{MOST_DISTRICTS} districts are the most"));
         }
-        let code = number(code, "a district's code", 1..=255)? as u8;
+        let code = number(code, "a district's code is", 1..=255)? as u8;
         if let Some(&before) = self.sheet.district_codes.last() {
             if code <= before {
                 return Err(format!(
@@ -125,7 +125,7 @@ impl Reader {
             return Err(format!("there is no district {district}"));
         }
         let values = i64::from(*VALUES.start())..=i64::from(*VALUES.end());
-        let value = number(value, "an item's value", values)? as i16;
+        let value = number(value, "an item's value is", values)? as i16;
         self.names.add_item(district, new_name(name)?)?;
         self.sheet.items.push(Item { district, value });
         Ok(())
@@ -253,16 +253,18 @@ fn new_name<'a>(word: Word<'a>) -> Result<&'a str, String> {
 }
 
 fn find_hold(word: Word) -> Result<u16, String> {
-    Ok(number(word, "a hold", 0..=65_535)? as u16)
+    Ok(number(word, "a hold is", 0..=65_535)? as u16)
 }
 
 fn find_operand(word: Word) -> Result<i16, String> {
-    Ok(number(word, "a step's number", -32_768..=32_767)? as i16)
+    Ok(number(word, "a step takes", -32_768..=32_767)? as i16)
 }
 
 fn find_district(names: &Names, word: Word) -> Result<u8, String> {
     match word {
-        Bare(text) if is_number(text) => Ok(number(word, "a district's number", 0..=255)? as u8),
+        Bare(text) if is_number(text) => {
+            Ok(number(word, "a district is a name or", 0..=255)? as u8)
+        }
         _ => names.find_district(word.text()),
     }
 }
@@ -271,7 +273,7 @@ fn find_district(names: &Names, word: Word) -> Result<u8, String> {
 fn find_item(names: &Names, words: &[Word]) -> Result<u8, String> {
     match *words {
         [word @ Bare(text)] if is_number(text) => {
-            Ok(number(word, "an item's number", 0..=255)? as u8)
+            Ok(number(word, "an item is a name or", 0..=255)? as u8)
         }
         [name] => names.find_item(name.text()),
         [district, name] => {
@@ -286,18 +288,18 @@ fn find_item(names: &Names, words: &[Word]) -> Result<u8, String> {
     }
 }
 
+/// The message reads "`what` a number from .. to .., not ..".
 fn number(word: Word, what: &str, range: RangeInclusive<i64>) -> Result<i64, String> {
-    let text = word.text();
-    let (first, last) = (range.start(), range.end());
-    if !matches!(word, Bare(_)) || !is_number(text) {
-        return Err(format!(
-            "{what} is a number from {first} to {last}, not {text}"
-        ));
-    }
-    match text.parse() {
-        Ok(number) if range.contains(&number) => Ok(number),
-        _ => Err(format!("{what} is from {first} to {last}, not {text}")),
-    }
+    let number = match word {
+        Bare(text) if is_number(text) => text.parse().ok(),
+        _ => None,
+    };
+    number
+        .filter(|number| range.contains(number))
+        .ok_or_else(|| {
+            let (first, last) = (range.start(), range.end());
+            format!("{what} a number from {first} to {last}, not {word}")
+        })
 }
 
 fn hex(word: Word, digits: usize) -> Result<u16, String> {
@@ -307,7 +309,7 @@ fn hex(word: Word, digits: usize) -> Result<u16, String> {
             return Ok(number);
         }
     }
-    Err(format!("{digits} hex digits are wanted, not {text}"))
+    Err(format!("{digits} hex digits are wanted, not {word}"))
 }
 
 /// The forms a line can have, each with an example.
@@ -331,7 +333,7 @@ fn no_line(words: &[Word]) -> String {
         None => format!(
             "a line starts with district, item, begin, ready, give up, complete, abort, hear, \
              show or bytes, not with {}",
-            words[0].text()
+            words[0]
         ),
     }
 }
@@ -352,12 +354,12 @@ fn no_step(words: &[Word]) -> String {
         Some((_, example)) => format!("this step should look like: {example}"),
         None => format!(
             "a step starts with need, add, set, copy or step, not with {}",
-            first.text()
+            first
         ),
     }
 }
 
 fn joined(words: &[Word]) -> String {
-    let texts: Vec<_> = words.iter().map(|word| word.text()).collect();
+    let texts: Vec<_> = words.iter().map(Word::to_string).collect();
     texts.join(" ")
 }

@@ -1,5 +1,7 @@
 //! A line of text split into its words.
 
+use std::fmt;
+
 #[derive(Clone, Copy, Debug, PartialEq, Eq)]
 pub enum Word<'a> {
     /// As it stands: a word of the grammar, a number or a name.
@@ -11,10 +13,20 @@ pub enum Word<'a> {
 }
 
 impl<'a> Word<'a> {
-    /// As the line has it, for messages, but without the quotes.
+    /// Without the quotes.
     pub fn text(self) -> &'a str {
         match self {
             Word::Bare(text) | Word::Quoted(text) | Word::Mark(text) => text,
+        }
+    }
+}
+
+/// As the line has it, for messages.
+impl fmt::Display for Word<'_> {
+    fn fmt(&self, f: &mut fmt::Formatter) -> fmt::Result {
+        match self {
+            Word::Quoted(text) => write!(f, "\"{text}\""),
+            Word::Bare(text) | Word::Mark(text) => f.write_str(text),
         }
     }
 }
