@@ -20,7 +20,7 @@ pub struct Beside {
 
 /// The output for a good sheet.
 pub fn of_sheet(sheet: &Sheet, names: &Names, output: &str) -> Beside {
-    let mut lines = output.lines();
+    let mut lines = output.split_terminator('\n');
     let mut said = Vec::new();
     let misfit = sheet_lines(sheet, names, &mut lines, &mut said)
         .and_then(|()| ending(output, lines))
@@ -35,7 +35,7 @@ pub fn of_sheet(sheet: &Sheet, names: &Names, output: &str) -> Beside {
 pub fn of_refused(refused: &Refused, output: &str) -> Beside {
     let Refused { number, place, why } = refused;
     let expected = format!("sheet {number} {place}");
-    let mut lines = output.lines();
+    let mut lines = output.split_terminator('\n');
     let mut said = Vec::new();
     let first = match lines.next() {
         Some(line) if line == expected => {

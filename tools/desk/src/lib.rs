@@ -7,6 +7,8 @@ pub mod beside;
 pub mod binary;
 pub mod condition;
 pub mod explain;
+mod fields;
+mod lines;
 pub mod names;
 pub mod print;
 pub mod program;
