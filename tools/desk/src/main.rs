@@ -78,7 +78,7 @@ fn read(file: Option<&str>) -> Result<(), String> {
                 "{}: sheet {} {}: {}",
                 input.name, refused.number, refused.place, refused.why
             );
-            if !input.bytes.is_empty() && text::as_text(&input.bytes).is_some() {
+            if text::looks_like_text(&input.bytes) {
                 message += "\nthis looks like text, which is for desk write";
             }
             Err(message)
@@ -88,9 +88,10 @@ fn read(file: Option<&str>) -> Result<(), String> {
 
 fn play(program: &str, file: Option<&str>) -> Result<(), String> {
     let input = Input::read(file)?;
-    let text = match text::as_text(&input.bytes) {
-        Some(_) => input.text()?,
-        None => Text::Bytes(input.bytes),
+    let text = if text::looks_like_text(&input.bytes) {
+        input.text()?
+    } else {
+        Text::Bytes(input.bytes)
     };
     let bytes = text.bytes();
     let sheet = match text {

@@ -40,6 +40,12 @@ pub fn as_text(bytes: &[u8]) -> Option<&str> {
     text.chars().all(plain).then_some(text)
 }
 
+/// No bytes at all could be either. They are taken as a sheet, which the store
+/// has an answer for.
+pub fn looks_like_text(bytes: &[u8]) -> bool {
+    !bytes.is_empty() && as_text(bytes).is_some()
+}
+
 /// The first wrong line ends the reading.
 pub fn read(text: &str) -> Result<Text, Wrong> {
     let mut reader = Reader::default();

@@ -126,6 +126,19 @@ fn play_takes_text_and_bytes() {
 }
 
 #[test]
+fn play_takes_no_bytes_as_a_sheet() {
+    let message = "this sheet gets the line 'sheet 13 0' \
+                   (the sheet ends early, at the count of districts), but line 1 is 'sheet 13 9'";
+    let refusing = program("refusing");
+    assert_eq!(
+        desk(&["play", &refusing], b""),
+        bad(&format!(
+            "the output of {refusing} does not fit the sheet: {message}"
+        ))
+    );
+}
+
+#[test]
 fn play_hands_the_program_the_sheet() {
     // 1 + 1 + 1 + 0 + 0 + 0 + 0 + 1 + 7 + 4 = 15
     let text = "district Mill 1\nitem docks at Mill = 0\nshow 4\n";
