@@ -1,6 +1,7 @@
 //! Texts and the bytes they stand for, worked out by hand from document 01.
 
-use desk::text::read;
+use desk::print;
+use desk::text::{read, Text};
 
 fn bytes(text: &str) -> Vec<u8> {
     match read(text) {
@@ -72,16 +73,44 @@ fn numbers_stand_for_names_and_need_not_be_in_the_table() {
     );
 }
 
+const ALL_KINDS: &str = "\
+district \"Old Mill\" 1
+district \"5\" 2
+district Zürich-Süd 3
+item \"to\" at \"Old Mill\" = 1
+item \"#1; = x\" at \"5\" = 2
+item at at 2 = 3
+item 9am at Zürich-Süd = 4
+item 9am at \"5\" = 5
+";
+
+const ALL_KINDS_EVENTS: [&str; 6] = [
+    "begin copy \"to\" to \"#1; = x\"; copy at to \"to\"",
+    "show \"to\"",
+    "ready 1 \"5\"",
+    "ready 1 5",
+    "show Zürich-Süd 9am",
+    "show \"5\" 9am",
+];
+
 #[test]
 fn names_of_all_kinds() {
-    let text = "district \"Old Mill\" 1\ndistrict \"5\" 2\ndistrict Zürich-Süd 3\n\
-                item \"to\" at \"Old Mill\" = 1\nitem \"#1; = x\" at \"5\" = 2\n\
-                item at at 2 = 3\nitem 9am at Zürich-Süd = 4\n\
-                begin copy \"to\" to \"#1; = x\"; copy at to \"to\"\n\
-                show \"Old Mill\" \"to\"\nready 1 \"5\"\nready 1 5\nshow 9am\n";
-    let expected = hex("03 01 02 03 04 00 00 01 01 00 02 02 00 03 02 00 04 00 05 \
-         01 02 04 01 00 00 04 00 00 02 07 00 02 00 01 01 02 00 01 05 07 03");
-    assert_eq!(bytes(text), expected);
+    let expected = hex(
+        "03 01 02 03 05 00 00 01 01 00 02 02 00 03 02 00 04 01 00 05 00 06 \
+         01 02 04 01 00 00 04 00 00 02 07 00 02 00 01 01 02 00 01 05 07 03 07 04",
+    );
+    let events = ALL_KINDS_EVENTS.join("\n");
+    assert_eq!(bytes(&format!("{ALL_KINDS}{events}")), expected);
+}
+
+#[test]
+fn names_of_all_kinds_are_printed_as_they_are_written() {
+    let events = ALL_KINDS_EVENTS.join("\n");
+    let Ok(Text::Sheet(sheet, names)) = read(&format!("{ALL_KINDS}{events}")) else {
+        panic!("a good text");
+    };
+    let printed = sheet.events.iter().map(|event| print::event(&names, event));
+    assert_eq!(printed.collect::<Vec<_>>(), ALL_KINDS_EVENTS);
 }
 
 #[test]

@@ -57,6 +57,7 @@ fn lines_that_are_no_answers() {
         "0",
         "1",
         "2 5:*",
+        "1 5:T1 6:!T1",
         "1 5",
         "1 5:",
         "1 5:T",
@@ -71,6 +72,13 @@ fn lines_that_are_no_answers() {
     ];
     for pairs in pairs {
         let line = format!("3 0 {pairs}");
+        let expected = format!("line 3 should answer event 3, show docks, but line 3 is '{line}'");
+        assert_eq!(
+            misfit(&format!("1 0 1 1\n2 0\n{line}\nend\n")),
+            Some(expected)
+        );
+    }
+    for line in ["3 2", "3 4", "3 14"] {
         let expected = format!("line 3 should answer event 3, show docks, but line 3 is '{line}'");
         assert_eq!(
             misfit(&format!("1 0 1 1\n2 0\n{line}\nend\n")),
