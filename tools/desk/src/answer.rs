@@ -35,7 +35,7 @@ impl Answer {
                 let count: usize = decimal(count)?;
                 let pairs: Option<Vec<_>> = pairs.iter().map(|text| pair(text)).collect();
                 pairs
-                    .filter(|pairs| count > 0 && pairs.len() == count)
+                    .filter(|pairs| pairs.len() == count && is_polyvalue(pairs))
                     .map(Answer::Shown)
             }
             (0, Event::Begin(_) | Event::Show { .. }, _) => None,
@@ -44,6 +44,15 @@ impl Answer {
             _ => None,
         }
     }
+}
+
+/// 1 to 8 pairs, values strictly rising; only a pair that stands alone always
+/// applies.
+fn is_polyvalue(pairs: &[Pair]) -> bool {
+    let alone = pairs.len() == 1;
+    (1..=8).contains(&pairs.len())
+        && pairs.windows(2).all(|two| two[0].value < two[1].value)
+        && pairs.iter().all(|pair| pair.condition.is_always() == alone)
 }
 
 fn pair(text: &str) -> Option<Pair> {

@@ -21,6 +21,10 @@ impl Condition {
         products.map(Condition)
     }
 
+    pub fn is_always(&self) -> bool {
+        self.0.iter().any(Vec::is_empty)
+    }
+
     /// The condition's only tag, if it has just one.
     pub fn only_tag(&self) -> Option<Tag> {
         match self.0[..] {

@@ -81,7 +81,6 @@ fn two_ways(pairs: &[Pair]) -> Option<String> {
 
 /// Document 01's table, for the events that each row can come from.
 fn refused(names: &Names, event: &Event, number: u8) -> Option<String> {
-    let district_of = |district| names.district(district);
     Some(match (number, event) {
         (
             1,
@@ -107,10 +106,13 @@ fn refused(names: &Names, event: &Event, number: u8) -> Option<String> {
         (7, Event::Begin(_)) => "the last number, 65535, has been given".to_string(),
         (8, Event::Begin(_)) => "an item would have more than 8 values".to_string(),
         (9, Event::Ready { hold, district }) => {
-            format!("{} is not computing on hold {hold}", district_of(*district))
+            format!(
+                "{} is not computing on hold {hold}",
+                names.district(*district)
+            )
         }
         (9, Event::GiveUp { hold, district }) => {
-            format!("{} is not busy on hold {hold}", district_of(*district))
+            format!("{} is not busy on hold {hold}", names.district(*district))
         }
         (10, Event::Complete { hold } | Event::Abort { hold }) => {
             format!("hold {hold} is decided already")

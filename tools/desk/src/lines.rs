@@ -6,7 +6,7 @@ use crate::sheet::{Event, Step};
 use crate::words::Word;
 use Word::{Bare, Mark};
 
-/// Any line but a district, an item or bytes.
+/// Any line that is not a good district, item or bytes line.
 pub fn event(names: &Names, words: &[Word]) -> Result<Event, String> {
     Ok(match *words {
         [Bare("begin")] => Event::Begin(Vec::new()),
@@ -81,18 +81,15 @@ fn step(names: &Names, words: &[Word]) -> Result<Step, String> {
     })
 }
 
-/// The forms a line can have, each with an example.
-const FORMS: [(&str, &str); 10] = [
+/// The forms of the lines whose words are counted, each with an example.
+const FORMS: [(&str, &str); 7] = [
     ("district", "district Harbor 10"),
     ("item", "item docks at Harbor = 5"),
-    ("begin", "begin add -1 to Harbor docks; add 1 to Mill docks"),
     ("ready", "ready 1 Harbor"),
     ("give", "give up 1 Harbor"),
     ("complete", "complete 1"),
     ("abort", "abort 1"),
     ("hear", "hear 1 Harbor"),
-    ("show", "show Harbor docks"),
-    ("bytes", "bytes 02 0A 0B"),
 ];
 
 fn no_line(words: &[Word]) -> String {
@@ -121,9 +118,6 @@ fn no_step(words: &[Word]) -> String {
     };
     match STEP_FORMS.iter().find(|(word, _)| first == Bare(word)) {
         Some((_, example)) => format!("this step should look like: {example}"),
-        None => format!(
-            "a step starts with need, add, set, copy or step, not with {}",
-            first
-        ),
+        None => format!("a step starts with need, add, set, copy or step, not with {first}"),
     }
 }

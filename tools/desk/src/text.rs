@@ -60,6 +60,8 @@ pub fn read(text: &str) -> Result<Text, Wrong> {
     reader.end().map_err(|why| Wrong { line: last, why })
 }
 
+const BYTES_ALONE: &str = "a text with bytes lines has no other lines";
+
 #[derive(Default)]
 struct Reader {
     sheet: Sheet,
@@ -74,9 +76,7 @@ impl Reader {
         match *words {
             [] => Ok(()),
             [Bare("bytes"), ref bytes @ ..] => self.bytes(bytes),
-            _ if self.bytes.is_some() => {
-                Err("a text with bytes lines has no other lines".to_string())
-            }
+            _ if self.bytes.is_some() => Err(BYTES_ALONE.to_string()),
             [Bare("district"), name, code] => self.district(name, code),
             [Bare("item"), name, Bare("at"), district, Mark("="), value] => {
                 self.item(name, district, value)
@@ -90,7 +90,7 @@ impl Reader {
 
     fn bytes(&mut self, words: &[Word]) -> Result<(), String> {
         if self.sheet != Sheet::default() {
-            return Err("a text with bytes lines has no other lines".to_string());
+            return Err(BYTES_ALONE.to_string());
         }
         let bytes = self.bytes.get_or_insert_default();
         for &word in words {
