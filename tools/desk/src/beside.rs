@@ -2,10 +2,10 @@
 
 use crate::answer::Answer;
 use crate::binary::Refused;
-use crate::explain::explain;
+use crate::explain::Teller;
 use crate::names::Names;
 use crate::print;
-use crate::sheet::{Event, Sheet};
+use crate::sheet::Sheet;
 
 /// The words start in one column, unless a line is longer than this.
 const WIDEST: usize = 24;
@@ -64,9 +64,11 @@ fn sheet_lines<'a>(
     lines: &mut impl Iterator<Item = &'a str>,
     said: &mut Vec<Said<'a>>,
 ) -> Result<(), String> {
+    let mut teller = Teller::new(names);
     for (position, event) in (1..).zip(&sheet.events) {
         let line = lines.next();
-        let words = line.and_then(|line| words(line, position, event, names));
+        let answer = line.and_then(|line| Answer::read(line, position, event));
+        let words = answer.and_then(|answer| teller.tell(event, &answer));
         let (Some(line), Some(words)) = (line, words) else {
             return Err(format!(
                 "line {position} should answer event {position}, {}, but {}",
@@ -86,11 +88,6 @@ fn sheet_lines<'a>(
             instead(sheet.events.len() + 1, line)
         )),
     }
-}
-
-fn words(line: &str, position: usize, event: &Event, names: &Names) -> Option<String> {
-    let answer = Answer::read(line, position, event)?;
-    explain(names, event, &answer)
 }
 
 /// Nothing follows, and the last line has its end.

@@ -1,37 +1,67 @@
 //! What an event and its answer mean, in a sentence for the desk.
 
+use std::collections::HashSet;
+
 use crate::answer::{Answer, Pair};
 use crate::names::Names;
 use crate::print;
 use crate::program::{missing_item, not_a_program};
 use crate::sheet::Event;
 
-/// `None` if the event, with this sheet's districts and items, never gives this
-/// answer.
-pub fn explain(names: &Names, event: &Event, answer: &Answer) -> Option<String> {
-    let said = match *answer {
-        Answer::Done => done(names, event)?,
-        Answer::Begun { hold, grant } => begun(hold, grant),
-        Answer::Shown(ref pairs) => shown(pairs),
-        Answer::Refused(number) => format!("refused, {}", refused(names, event, number)?),
-    };
-    Some(format!("{}: {said}", print::event(names, event)))
+/// Tells the events of one sheet in turn. A district gives up in two ways, and
+/// only its answers before say which: it had reported ready or it had not.
+pub struct Teller<'a> {
+    names: &'a Names,
+    /// Hold and district, for each ready that was accepted.
+    ready: HashSet<(u16, u8)>,
 }
 
-fn done(names: &Names, event: &Event) -> Option<String> {
-    match *event {
-        Event::Begin(_) | Event::Show { .. } => None,
-        Event::Ready { hold, district } => Some(format!(
-            "{} waits to hear of hold {hold}",
-            names.district(district)
-        )),
-        Event::GiveUp { district, .. } => Some(format!("{} is idle", names.district(district))),
-        Event::Complete { hold } => Some(format!("hold {hold} is completed")),
-        Event::Abort { hold } => Some(format!("hold {hold} is aborted")),
-        Event::Hear { hold, district } => Some(format!(
-            "{} knows the outcome of hold {hold}",
-            names.district(district)
-        )),
+impl Teller<'_> {
+    pub fn new(names: &Names) -> Teller<'_> {
+        Teller {
+            names,
+            ready: HashSet::new(),
+        }
+    }
+
+    /// `None` if the event, with this sheet's districts and items, never gives
+    /// this answer.
+    pub fn tell(&mut self, event: &Event, answer: &Answer) -> Option<String> {
+        let said = match *answer {
+            Answer::Done => self.done(event)?,
+            Answer::Begun { hold, grant } => begun(hold, grant),
+            Answer::Shown(ref pairs) => shown(pairs),
+            Answer::Refused(number) => format!("refused, {}", refused(self.names, event, number)?),
+        };
+        Some(format!("{}: {said}", print::event(self.names, event)))
+    }
+
+    fn done(&mut self, event: &Event) -> Option<String> {
+        let name = |district| self.names.district(district);
+        Some(match *event {
+            Event::Begin(_) | Event::Show { .. } => return None,
+            Event::Ready { hold, district } => {
+                self.ready.insert((hold, district));
+                format!("{} waits to hear of hold {hold}", name(district))
+            }
+            Event::GiveUp { hold, district } if self.ready.contains(&(hold, district)) => {
+                format!(
+                    "{} goes on with both outcomes of hold {hold}",
+                    name(district)
+                )
+            }
+            Event::GiveUp { hold, district } => {
+                format!(
+                    "{} drops hold {hold}, which can only be aborted",
+                    name(district)
+                )
+            }
+            Event::Complete { hold } => format!("hold {hold} is completed"),
+            Event::Abort { hold } => format!("hold {hold} is aborted"),
+            Event::Hear { hold, district } => {
+                format!("{} knows the outcome of hold {hold}", name(district))
+            }
+        })
     }
 }
 

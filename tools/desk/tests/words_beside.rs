@@ -42,7 +42,11 @@ fn answer_0() {
         "hold 65535 begins, granted or declined as other holds turn out",
     );
     says("ready 1 Harbor", "0", "Harbor waits to hear of hold 1");
-    says("give up 1 \"Old Mill\"", "0", "\"Old Mill\" is idle");
+    says(
+        "give up 1 \"Old Mill\"",
+        "0",
+        "\"Old Mill\" drops hold 1, which can only be aborted",
+    );
     says("complete 3", "0", "hold 3 is completed");
     says("abort 3", "0", "hold 3 is aborted");
     says("hear 3 Harbor", "0", "Harbor knows the outcome of hold 3");
@@ -57,6 +61,27 @@ fn answer_0() {
         "0 2 4:!T1 5:T1",
         "4 if hold 1 does not complete, 5 if it does",
     );
+}
+
+#[test]
+fn giving_up_after_ready_is_told_otherwise() {
+    let text = "district a 1\ndistrict b 2\nitem i at a = 0\n\
+                ready 1 a\nready 2 b\ngive up 1 a\ngive up 2 a\ngive up 1 b\ngive up 2 b\n";
+    let Ok(Text::Sheet(sheet, names)) = read(text) else {
+        panic!("a good text");
+    };
+    // Hold 2 was not ready at b after all.
+    let output = "1 0\n2 9\n3 0\n4 0\n5 0\n6 0\nend\n";
+    let beside = "\
+1 0   ready 1 a: a waits to hear of hold 1
+2 9   ready 2 b: refused, b is not computing on hold 2
+3 0   give up 1 a: a goes on with both outcomes of hold 1
+4 0   give up 2 a: a drops hold 2, which can only be aborted
+5 0   give up 1 b: b drops hold 1, which can only be aborted
+6 0   give up 2 b: b drops hold 2, which can only be aborted
+end
+";
+    assert_eq!(of_sheet(&sheet, &names, output).text, beside);
 }
 
 #[test]
