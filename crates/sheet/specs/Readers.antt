@@ -24,13 +24,13 @@ repeat (suc n) reader x at s = andThen (reader x at s) (repeat n reader)
 -- a byte that passes a test: a wrong one is at its own place
 unfoldable pub byte : (ℕ → Bool) → ℕ → List ℕ → Read ℕ
 byte test at [] = wrong at
-byte test at (b ∷ s) = cond (test b) (right b (suc at) s) (wrong at)
+byte test at (b ∷ s) = cond (test b) (right b (at + 1) s) (wrong at)
 
 -- two bytes, high first, that are a number which passes a test: a wrong one is at its first byte, and a sheet that ends inside is wrong at its end
 unfoldable pub word : (ℕ → Bool) → ℕ → List ℕ → Read ℕ
 word test at [] = wrong at
-word test at (high ∷ []) = wrong (suc at)
-word test at (high ∷ low ∷ s) = let n : ℕ = high * 2 ^ 8 + low in cond (test n) (right n (suc (suc at)) s) (wrong at)
+word test at (high ∷ []) = wrong (at + 1)
+word test at (high ∷ low ∷ s) = let n : ℕ = high * 2 ^ 8 + low in cond (test n) (right n (at + 2) s) (wrong at)
 
 -- n bytes, whatever they are: where fewer are left, the sheet ends early
 unfoldable pub part : ℕ → ℕ → List ℕ → Read (List ℕ)

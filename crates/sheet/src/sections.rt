@@ -9,18 +9,18 @@ ghost use Rattle.sheet.specs.declared.events.Event.{Event};
 ghost use Rattle.sheet.specs.Readers.{repeat};
 ghost use Rattle.sheet.specs.Events.{oneMore};
 ghost use Rattle.sheet.specs.Sections.{code, districts, item, itemMore, items, events};
-ghost use Rattle.sheet.specs.Told.{told};
+ghost use Rattle.sheet.specs.Told.{Told};
 use crate::events::EventAt;
 use crate::events::event_at;
 use crate::readers::Number;
 use crate::readers::byte;
+use crate::readers::byte_between;
+use crate::readers::value;
 use crate::readers::word;
 use book::DISTRICTS;
 use book::ITEMS;
 use book::Opening;
 use book::Openings;
-use polyvalues::in_range;
-use polyvalues::of_bytes;
 
 // An item that was read.
 struct ItemAt {
@@ -46,43 +46,39 @@ pub(crate) struct EventsRead {
 
 // District codes, each above the one before it: the last of them.
 fn codes(sheet: &[u8], start: usize, n: usize) -> Number
-    ensures { λ r. ⌜ repeat n code 0 start (drop start (now (sheet .entry))) ≡ told (now (sheet .entry)) (r .good) (r .place) (r .number) ⌝ }
+    ensures { λ r. ⌜ Told (repeat n code 0 start (drop start (now (sheet .entry)))) (now (sheet .entry)) (r .good) (r .place) (r .number) ⌝ }
 {
-    let mut last: u8 = 0;
+    let mut last: usize = 0;
     let mut at = start;
     let mut i: usize = 0;
     while i < n {
-        if sheet.len() <= at {
+        let code = byte(sheet, at);
+        if !code.good {
+            return code;
+        }
+        if code.number <= last {
             return Number {
                 good: false,
                 place: at,
                 number: 0,
             };
         }
-        let code = sheet[at];
-        if code <= last {
-            return Number {
-                good: false,
-                place: at,
-                number: 0,
-            };
-        }
-        last = code;
-        at += 1;
+        last = code.number;
+        at = code.place;
         i += 1;
     }
     Number {
         good: true,
         place: at,
-        number: last as usize,
+        number: last,
     }
 }
 
 // The count of districts.
 pub(crate) fn districts(sheet: &[u8]) -> Number
-    ensures { λ r. ⌜ districts 0 (now (sheet .entry)) ≡ told (now (sheet .entry)) (r .good) (r .place) (r .number) ⌝ }
+    ensures { λ r. ⌜ Told (districts 0 (now (sheet .entry))) (now (sheet .entry)) (r .good) (r .place) (r .number) ⌝ }
 {
-    let count = byte(sheet, 0, 1, DISTRICTS);
+    let count = byte_between(sheet, 0, 1, DISTRICTS);
     if !count.good {
         return count;
     }
@@ -96,46 +92,40 @@ pub(crate) fn districts(sheet: &[u8]) -> Number
 
 // An item, where there are so many districts.
 fn item_at(sheet: &[u8], at: usize, districts: usize) -> ItemAt
-    ensures { λ r. ⌜ item districts at (drop at (now (sheet .entry))) ≡ told (now (sheet .entry)) (r .good) (r .place) (r .item) ⌝ }
+    ensures { λ r. ⌜ Told (item districts at (drop at (now (sheet .entry)))) (now (sheet .entry)) (r .good) (r .place) (r .item) ⌝ }
 {
     let none = Opening {
         district: 0,
         value: 0,
     };
-    let n = sheet.len();
-    if n <= at {
+    let d = byte(sheet, at);
+    if !d.good {
+        return ItemAt {
+            good: false,
+            place: d.place,
+            item: none,
+        };
+    }
+    if districts <= d.number {
         return ItemAt {
             good: false,
             place: at,
             item: none,
         };
     }
-    let district = sheet[at];
-    if districts <= district as usize {
+    let v = value(sheet, d.place);
+    if !v.good {
         return ItemAt {
             good: false,
-            place: at,
+            place: v.place,
             item: none,
         };
     }
-    if n - at < 3 {
-        return ItemAt {
-            good: false,
-            place: n,
-            item: none,
-        };
-    }
-    let value = of_bytes(sheet[at + 1], sheet[at + 2]);
-    if !in_range(value as i32) {
-        return ItemAt {
-            good: false,
-            place: at + 1,
-            item: none,
-        };
-    }
+    let district = d.number as u8;
+    let value = v.value;
     ItemAt {
         good: true,
-        place: at + 3,
+        place: v.place,
         item: Opening { district, value },
     }
 }
@@ -143,7 +133,7 @@ fn item_at(sheet: &[u8], at: usize, districts: usize) -> ItemAt
 // So many items.
 fn items_from(sheet: &[u8], start: usize, districts: usize, n: usize) -> ItemsRead
     requires { ⌜ n ≤ mostItems ⌝ }
-    ensures { λ r. ⌜ repeat n (itemMore districts) [] start (drop start (now (sheet .entry))) ≡ told (now (sheet .entry)) (r .good) (r .place) (openingsOf (r .items)) ⌝ }
+    ensures { λ r. ⌜ Told (repeat n (itemMore districts) [] start (drop start (now (sheet .entry)))) (now (sheet .entry)) (r .good) (r .place) (openingsOf (r .items)) ⌝ }
     ensures { λ r. ⌜ r .items .count ≤ mostItems ⌝ }
 {
     let none = Opening {
@@ -182,10 +172,10 @@ fn items_from(sheet: &[u8], start: usize, districts: usize, n: usize) -> ItemsRe
 
 // The items.
 pub(crate) fn items(sheet: &[u8], at: usize, districts: usize) -> ItemsRead
-    ensures { λ r. ⌜ items districts at (drop at (now (sheet .entry))) ≡ told (now (sheet .entry)) (r .good) (r .place) (openingsOf (r .items)) ⌝ }
+    ensures { λ r. ⌜ Told (items districts at (drop at (now (sheet .entry)))) (now (sheet .entry)) (r .good) (r .place) (openingsOf (r .items)) ⌝ }
     ensures { λ r. ⌜ r .items .count ≤ mostItems ⌝ }
 {
-    let count = byte(sheet, at, 1, ITEMS);
+    let count = byte_between(sheet, at, 1, ITEMS);
     if !count.good {
         let none = Opening {
             district: 0,
@@ -205,7 +195,7 @@ pub(crate) fn items(sheet: &[u8], at: usize, districts: usize) -> ItemsRead
 
 // Where so many events end.
 fn events_from(sheet: &[u8], start: usize, n: usize) -> Number
-    ensures { λ r. ⌜ ((es : List Event) × (repeat n oneMore [] start (drop start (now (sheet .entry))) ≡ told (now (sheet .entry)) (r .good) (r .place) es)) ⌝ }
+    ensures { λ r. ⌜ ((es : List Event) × (Told (repeat n oneMore [] start (drop start (now (sheet .entry)))) (now (sheet .entry)) (r .good) (r .place) es)) ⌝ }
 {
     let mut at = start;
     let mut i: usize = 0;
@@ -233,7 +223,7 @@ fn events_from(sheet: &[u8], start: usize, n: usize) -> Number
 
 // The events.
 pub(crate) fn events(sheet: &[u8], at: usize) -> EventsRead
-    ensures { λ r. ⌜ ((es : List Event) × (events at (drop at (now (sheet .entry))) ≡ told (now (sheet .entry)) (r .good) (r .place) (record { count = r .count; first = r .first; each = es }))) ⌝ }
+    ensures { λ r. ⌜ ((es : List Event) × (Told (events at (drop at (now (sheet .entry)))) (now (sheet .entry)) (r .good) (r .place) (record { count = r .count; first = r .first; each = es }))) ⌝ }
 {
     let count = word(sheet, at);
     if !count.good {
