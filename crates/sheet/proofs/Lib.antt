@@ -1,1 +1,3 @@
 mod Reading
+mod Repeating
+mod Opens

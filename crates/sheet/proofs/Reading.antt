@@ -5,17 +5,17 @@ use mathlib.Core.List.{List, [], _∷_}
 use Prim.Native.Nat.{ℕ, suc, _+_, _-_, _*_, _^_, _≤_, _<_}
 use native.Mathlib.Numerals.{add-one}
 use native.Mathlib.Omega.{arith}
-use lib.Dec.{leb}
+use lib.Dec.{leb, ltb}
 use lib.IntN.{ℤ}
 use lib.ListN.{length, getD, take, drop, length-drop, drop-of-length-le}
 use lib.Seq.{drop-cons, drop-drop}
 use borrow.Author.Tests.{le-leb, lt-leb, leb-true, leb-false, not-true, not-false}
 use Rattle.polyvalues.specs.Values.{inRange, signed, ofBytes}
-use Rattle.sheet.specs.Readers.{Read, wrong, right, byte, word, part, end, any}
+use Rattle.sheet.specs.Readers.{Read, wrong, right, andThen, byte, word, part, end, any}
 use Rattle.sheet.specs.declared.events.EventAt.{EventAt}
 use Rattle.sheet.specs.declared.events.EventAt.the-variants.{Read as Found, Wrong}
 use Rattle.sheet.specs.Events.{event, answered, eventAt}
-use Rattle.sheet.specs.Sections.{value}
+use Rattle.sheet.specs.Sections.{value, item}
 use Rattle.sheet.specs.Told.{Told, toldEvent}
 
 -- ---- what the code was told by a reader that it called
@@ -34,6 +34,11 @@ module _ {A : Type 0} {r : Read A} {s : List ℕ} {good : Bool} {place : ℕ} {x
 
   pub still-right : not good ≡ false → r ≡ right x place (drop place s) → Told r s good place x
   still-right g e = record { is = e ∙ ap (λ (b : Bool). cond b (right x place (drop place s)) (wrong place)) (sym (not-false good g)) }
+
+pub told-as : {A B : Type 0} (f : A → B) {r : Read A} {s : List ℕ} {good : Bool} {place : ℕ} {x : A} → Told r s good place x
+    → Told (andThen r (λ y at l. right (f y) at l)) s good place (f x)
+told-as f {good = true} e = record { is = rw (e .is) }
+told-as f {good = false} e = record { is = rw (e .is) }
 
 -- what is answered of an event is what its reader tells, and the call's definition
 answered-told : (s : List ℕ) (r : EventAt) → answered (toldEvent s r) ≡ r
@@ -122,6 +127,12 @@ module _ (s : List ℕ) (at : ℕ) where
     pub value-bad : inRange v ≡ false → value at (drop at s) ≡ wrong at
     unfolding value ofBytes
     value-bad e = rw (word-bad (λ n. inRange (signed n)) s at h (sym (ap inRange is) ∙ e))
+
+-- an item of a district and a value, as the code keeps it
+pub item-read : (count at : ℕ) (l : List ℕ) {d next place : ℕ} {v z : ℤ} {more rest : List ℕ} → byte (λ d. ltb d count) at l ≡ right d next more → value next more ≡ right v place rest → z ≡ v
+    → item count at l ≡ right (record { district = d; value = z }) place rest
+unfolding item
+item-read count at l {d = d} {place = place} {rest = rest} b v e = rw (b, v) (λ k. right (record { district = d; value = sym e k }) place rest)
 
 -- ---- a part, and the end
 

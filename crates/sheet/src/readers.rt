@@ -1,6 +1,6 @@
 // Bytes, words and values of the sheet, each with the place behind it.
 ghost use mathlib.Core.Path.{_≡_};
-ghost use Prim.Native.Nat.{_-_, _<_, _^_};
+ghost use Prim.Native.Nat.{_-_, _≤_, _<_, _^_};
 ghost use lib.ListN.{length, take, drop};
 ghost use Rattle.sheet.specs.Readers.{byte, word, part, any, between};
 ghost use Rattle.sheet.specs.Sections.{value};
@@ -45,10 +45,15 @@ pub(crate) fn byte(sheet: &[u8], at: usize) -> Number
 // A byte from the lowest to the highest.
 pub(crate) fn byte_between(sheet: &[u8], at: usize, low: usize, high: usize) -> Number
     ensures { λ r. ⌜ Told (byte (between low high) at (drop at (now (sheet .entry)))) (now (sheet .entry)) (r .good) (r .place) (r .number) ⌝ }
+    ensures { λ r. ⌜ r .number ≤ high ⌝ }
 {
     let b = byte(sheet, at);
     if !b.good {
-        return b;
+        return Number {
+            good: false,
+            place: b.place,
+            number: 0,
+        };
     }
     if b.number < low {
         return Number {

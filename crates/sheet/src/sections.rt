@@ -121,12 +121,13 @@ fn item_at(sheet: &[u8], at: usize, districts: usize) -> ItemAt
             item: none,
         };
     }
-    let district = d.number as u8;
-    let value = v.value;
     ItemAt {
         good: true,
         place: v.place,
-        item: Opening { district, value },
+        item: Opening {
+            district: d.number as u8,
+            value: v.value,
+        },
     }
 }
 

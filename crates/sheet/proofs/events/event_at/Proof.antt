@@ -16,7 +16,7 @@ byte-between-requires c κs = search needs
 -- src/events.rt:169:9
 returns : tie.Need-returns
 unfolding event
-returns c = answers _ _ _ (rw (went-wrong (c .before .before .byte-between .ensures) (c .if1 .taken)))
+returns c = answers _ _ _ (rw (went-wrong (c .before .before .byte-between .ensures .0) (c .if1 .taken)))
 
 -- src/events.rt:171:5
 fields-requires : tie.Need-fields-requires
@@ -25,7 +25,7 @@ fields-requires c κs = search needs
 -- src/events.rt:163:1
 returns-2 : tie.Need-returns-2
 unfolding event
-returns-2 c = answers _ _ _ (rw (went-right (c .before .before .before .byte-between .ensures) (c .before .if1 .left)) (c .fields .ensures))
+returns-2 c = answers _ _ _ (rw (went-right (c .before .before .before .byte-between .ensures .0) (c .before .if1 .left)) (c .fields .ensures))
 
 pub event-at-spec : {M : Type 1} → statement M
 event-at-spec = tie.close (tie.spec byte-between-requires returns fields-requires returns-2)

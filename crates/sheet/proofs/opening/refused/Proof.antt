@@ -1,3 +1,4 @@
+use Rattle.sheet.specs.Open.{refused}
 use borrow.Author.Needs.{needs}
 use Rattle.sheet.proofs.opening.refused.Statement.{statement}
 use Rattle.sheet.proofs.opening.refused.Tie as tie
@@ -11,7 +12,8 @@ zero-book-requires c κs = search needs
 
 -- src/opening.rt:28:1
 returns : tie.Need-returns
-returns c = ?
+unfolding refused
+returns c = cc
 
 pub refused-spec : {M : Type 1} → statement M
 refused-spec = tie.close (tie.spec zero-book-requires returns)
