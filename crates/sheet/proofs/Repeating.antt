@@ -65,12 +65,11 @@ pub row-more : (xs : List Opening) (x : Opening) {i : ℕ} {rows : List Opening}
     → (length (xs ++ (x ∷ [])) ≡ i + 1) × (set rows i x ≡ inRows (xs ++ (x ∷ [])))
 row-more xs x {i} e h is =
     let long : length (xs ++ (x ∷ [])) ≡ i + 1 = length-append xs (x ∷ []) ∙ ap (λ (n : ℕ). n + 1) e in
-    let more : mostItems - length xs ≡ suc (mostItems - length (xs ++ (x ∷ []))) = omega arith in
-    (
+    let more : mostItems - length xs ≡ suc (mostItems - length (xs ++ (x ∷ []))) = omega arith in (
       long,
       ap (λ (l : List Opening). set l i x) (is ∙ ap (λ (n : ℕ). xs ++ replicate n noOpening) more)
-      ∙ set-at xs noOpening (replicate (mostItems - length (xs ++ (x ∷ []))) noOpening) x i e
-      ∙ sym (append-assoc xs (x ∷ []) (replicate (mostItems - length (xs ++ (x ∷ []))) noOpening)),
+          ∙ set-at xs noOpening (replicate (mostItems - length (xs ++ (x ∷ []))) noOpening) x i e
+          ∙ sym (append-assoc xs (x ∷ []) (replicate (mostItems - length (xs ++ (x ∷ []))) noOpening)),
     )
 
 pub rows-read : (xs : List Opening) {n : ℕ} {rows : List Opening} → length xs ≡ n → rows ≡ inRows xs → openingsOf (record { count = n; items = rows }) ≡ xs

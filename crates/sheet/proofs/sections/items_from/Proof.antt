@@ -54,14 +54,14 @@ loop-less c = omega arith
 
 -- src/sections.rt:146:5
 loop-again : tie.Need-loop-again Inv-loop μ-loop
-loop-again c = 
+loop-again c =
     let at-loop = c .before .before .before .before .before .loop in
     let more = row-more (at-loop .inv .1 .0) (c .before .before .before .item-at .result .item) (at-loop .inv .1 .1) (omega (arith, c .before .before .before .before .before .before .before .pre)) (at-loop .inv .1 .2) in
     (omega arith, (_, more .0, more .1, repeat-more (itemMore _) _ (at-loop .inv .1 .3) (omega arith) (item-more _ _ _ _ (went-right (c .before .before .before .item-at .ensures) (c .before .if1 .left)))))
 
 -- src/sections.rt:134:1
 returns-2 : tie.Need-returns-2 Inv-loop μ-loop
-returns-2 c = 
+returns-2 c =
     let at-loop = c .before .loop in
     let same : length (at-loop .inv .1 .0) ≡ c .before .before .before .args .n = omega (arith, at-loop .inv .1 .1) in
     let all = rows-read (at-loop .inv .1 .0) same (at-loop .inv .1 .2) in
