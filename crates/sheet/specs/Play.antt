@@ -1,13 +1,10 @@
 -- "Each later call takes the book that the call before it returned." (document 01, Events) "The line that show writes into its buffer runs from the count of pairs on, without
 -- a line end; the program lends it 65,536 bytes." (The sheet and the program)
-use mathlib.Core.Bool.{Bool, cond}
+use mathlib.Core.Bool.{cond}
 use mathlib.Core.List.{List, [], _∷_}
-use Prim.Native.Nat.{ℕ, _+_, _-_}
-use lib.Dec.{leb}
-use lib.ListN.{length, take, drop, replicate}
-use Rattle.conditions.specs.declared.text.Written.the-variants.{To, NoRoom}
+use Prim.Native.Nat.{ℕ, _-_}
+use lib.ListN.{take, drop, replicate}
 use Rattle.conditions.specs.Text.{decimal}
-use Rattle.conditions.specs.Written.{written}
 use Rattle.book.specs.declared.Answer.{Answer}
 use Rattle.book.specs.declared.Book.{Book}
 use Rattle.book.specs.declared.Begun.{Begun}
@@ -20,8 +17,8 @@ use Rattle.book.specs.Hear.{hear}
 use Rattle.book.specs.Show.{heldLine, showAnswer}
 use Rattle.sheet.specs.declared.events.Event.{Event}
 use Rattle.sheet.specs.declared.events.Event.the-variants.{Begin, Ready, GiveUp, Complete, Abort, Hear, Show}
-use Rattle.sheet.specs.declared.play.Played.{Played}
-use Rattle.sheet.specs.Lines.{eventLine}
+use Rattle.sheet.specs.declared.playing.Played.{Played}
+use Rattle.sheet.specs.Lines.{eventLine, lentRoom, roomy, lineAnswer, lineWritten}
 
 -- what an event comes to: its answer, what its line says after the answer number where it is accepted, and the book that it returns
 pub record Outcome : Type 0 where
@@ -36,10 +33,6 @@ ofBegun r = record { answer = r .answer; more = decimal (r .number .0) ∷ decim
 -- the other events on a transaction print nothing more
 abbrev pub ofDone : Done → Outcome
 ofDone r = record { answer = r .answer; more = []; book = r .book }
-
--- "the program lends it 65,536 bytes"
-abbrev pub lentRoom : ℕ
-lentRoom = 65536
 
 -- "an accepted show the count of pairs and each `value:condition`": the line that show writes. Its answer asks of the lent bytes only how many they are.
 unfoldable pub ofShow : ℕ → Book → ℕ → Outcome
@@ -61,20 +54,12 @@ outcomeLine position x = eventLine position (x .answer) (x .more)
 
 -- ---- the call
 
--- the longest line that there can be: a position of 20 digits, the answer number between spaces, what show was lent, and a line feed
-abbrev pub longestLine : ℕ
-longestLine = 20 + 3 + lentRoom + 1
-
--- a lent buffer has room for it
-abbrev pub roomy : List ℕ → Bool
-roomy buf = leb longestLine (length buf)
-
--- what the call answers: where the line ends, and the book. A buffer that is not roomy is refused.
+-- what the call answers, where the lent buffer is buf: a buffer that is too short leaves the book as it was
 unfoldable pub played : ℕ → Book → List ℕ → Event → ℕ → List ℕ → Played
 played w b s e position buf =
     let x : Outcome = outcome w b s e in
-    cond (roomy buf) (record { written = To (length (outcomeLine position x)); book = x .book }) (record { written = NoRoom; book = b })
+    record { written = lineAnswer buf (outcomeLine position x); book = cond (roomy buf) (x .book) b }
 
--- the buffer afterwards: the line at its start, or as it was
+-- the buffer afterwards
 unfoldable pub playedBuffer : ℕ → Book → List ℕ → Event → ℕ → List ℕ → List ℕ
-playedBuffer w b s e position buf = let new : List ℕ = written buf 0 (outcomeLine position (outcome w b s e)) in cond (roomy buf) new buf
+playedBuffer w b s e position buf = lineWritten buf (outcomeLine position (outcome w b s e))

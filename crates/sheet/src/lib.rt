@@ -3,15 +3,19 @@
 // Every public function is proved to return what its definition in `specs/` says, for every argument:
 // any bytes and any place may be handed in. No public function has a `requires`, and nothing is assumed.
 mod events;
+mod lines;
 mod opening;
-mod play;
+mod playing;
 mod readers;
 mod sections;
 
 pub use events::Event;
 pub use events::EventAt;
 pub use events::event_at;
+pub use lines::LONGEST_LINE;
+pub use lines::write_refusal;
 pub use opening::MOST_BYTES;
 pub use opening::Opened;
 pub use opening::open;
-pub use play::Played;
+pub use playing::Played;
+pub use playing::play;
