@@ -91,7 +91,9 @@ module _ (position : ℕ) (a : Answer) where
 pub refusal-line : (a : Answer) (place : ℕ) → ((bytes "sheet" ++ field (decimal (answerNumber a))) ++ field (decimal place)) ++ bytes "\n" ≡ refusalLine a place
 unfolding refusalLine line
 refusal-line a place =
-    rw (two-fields (bytes "sheet") (decimal (answerNumber a)), field-more (bytes "sheet") (decimal (answerNumber a) ∷ []) (decimal place))
+    ap (λ (t : List ℕ). t ++ bytes "\n")
+    (ap (λ (t : List ℕ). t ++ field (decimal place)) (two-fields (bytes "sheet") (decimal (answerNumber a)))
+    ∙ field-more (bytes "sheet") (decimal (answerNumber a) ∷ []) (decimal place))
 
 -- ---- at the buffer's start
 
@@ -140,7 +142,7 @@ decimal-some n = simp length-append (omega arith)
 
 -- what is put before a show's line is no longer than the line of a refused one
 pub head-shorter : (position : ℕ) (a : Answer) → length (head position Accepted ++ bytes " ") ≤ length (eventLine position a [])
-head-shorter position a = rw (← plain-line position a, ← head-fields position a, ← head-fields position Accepted) (simp length-append (omega (arith, decimal-some (answerNumber a))))
+head-shorter position a = rw (← plain-line position a, ← head-fields position a, ← head-fields position Accepted) (simp length-append (omega (arith, decimal-some (answerNumber a), ap length (decimal-one 0 (omega arith)))))
 
 -- and it leaves what show is lent, and a line feed
 pub show-fits : (position : ℕ) {l m k : List ℕ} {i from : ℕ} → position < 10 ^ 20 → longestLine ≤ length l → Put l m 0 i (head position Accepted) → Put m k i from (bytes " ")
