@@ -36,7 +36,7 @@ same-length-2 c = search needs
 
 -- src/lines.rt:31:1
 returns-2 : tie.Need-returns-2
-returns-2 c = 
+returns-2 c =
     let few = decimal-le 19 (c .before .before .before .before .before .before .before .before .args .n) (omega arith) in
     let put = written-put (omega (arith, c .before .before .before .before .before .before .before .before .pre)) (sym (c .before .end .given .1) ∙ c .before .before .before .before .before .write-decimal .ensures .0) (c .before .before .before .before .before .write-decimal .ensures .1) in
     (put, omega (arith, put .ends))

@@ -59,7 +59,7 @@ same-length c = search needs
 
 -- src/playing.rt:98:9
 returns : tie.Need-returns
-returns c = 
+returns c =
     let start = c .before .before .before .before .before .before .before .before .before .before .before .before .before .before .before .before .before .before .before in
     let head = c .before .before .before .before .before .before .before .before .before .before .before .before .before .before .before .before .put-head .ensures .0 in
     let space = c .before .before .before .before .before .before .before .before .before .before .before .before .put-byte .ensures in
@@ -75,7 +75,7 @@ returns c =
 
 -- src/playing.rt:103:29
 add-put-byte : tie.Need-add-put-byte
-add-put-byte c = 
+add-put-byte c =
     let start = c .before .before .before .before .before .before .before .before .before .before .before .before .before .before .before .before .before in
     let head = c .before .before .before .before .before .before .before .before .before .before .before .before .before .before .put-head .ensures .0 in
     let space = c .before .before .before .before .before .before .before .before .before .before .put-byte .ensures in
@@ -87,7 +87,7 @@ add-put-byte c =
 
 -- src/playing.rt:103:9
 put-byte-requires-2 : tie.Need-put-byte-requires-2
-put-byte-requires-2 c κs = 
+put-byte-requires-2 c κs =
     let start = c .before .before .before .before .before .before .before .before .before .before .before .before .before .before .before .before .before in
     let head = c .before .before .before .before .before .before .before .before .before .before .before .before .before .before .put-head .ensures .0 in
     let space = c .before .before .before .before .before .before .before .before .before .before .put-byte .ensures in
@@ -104,7 +104,7 @@ same-length-2 c = search needs
 
 -- src/playing.rt:87:1
 returns-2 : tie.Need-returns-2
-returns-2 c = 
+returns-2 c =
     let start = c .before .before .before .before .before .before .before .before .before .before .before .before .before .before .before .before .before .before .before .before in
     let head = c .before .before .before .before .before .before .before .before .before .before .before .before .before .before .before .before .before .put-head .ensures .0 in
     let space = c .before .before .before .before .before .before .before .before .before .before .before .before .before .put-byte .ensures in
