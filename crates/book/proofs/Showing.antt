@@ -2,9 +2,9 @@
 use mathlib.Core.Path.{_≡_, ap, _∙_, fun-ext}
 use mathlib.Core.Bool.{true, false, cond}
 use mathlib.Core.List.{List, map}
-use Prim.Native.Nat.{ℕ, _≤_, _<_}
+use Prim.Native.Nat.{ℕ, _+_, _≤_, _<_}
 use native.Mathlib.Omega.{arith}
-use lib.ListN.{List·getD-map}
+use lib.ListN.{length, List·getD-map}
 use borrow.Author.Tests.{lt-ltb, le-ltb}
 use Rattle.conditions.specs.declared.place.TransactionNumber.{TransactionNumber}
 use Rattle.conditions.specs.declared.text.Written.the-variants.{To, NoRoom}
@@ -14,14 +14,14 @@ use Rattle.conditions.specs.Written.{room, answer, written}
 use Rattle.conditions.proofs.Laws.Below.{by-cases}
 use Rattle.polyvalues.specs.Text.{lineText}
 use Rattle.polyvalues.specs.Polyvalues.{inUse}
-use Rattle.book.specs.declared.Answer.{Answer}
 use Rattle.book.specs.declared.Answer.the-variants.{Accepted, NoItem, Unsound, ShortBuffer}
 use Rattle.book.specs.declared.Book.{Book}
 use Rattle.book.specs.declared.Open.{Open}
+use Rattle.book.specs.declared.Shown.{Shown}
 use Rattle.book.specs.Answers.{firstOf}
 use Rattle.book.specs.Book.{noOpen, itemAt}
 use Rattle.book.specs.SoundTest.{sound}
-use Rattle.book.specs.Show.{tagNumber, heldLine, showAnswer, shown}
+use Rattle.book.specs.Show.{tagNumber, heldLine, showAnswer, shown, show}
 
 -- ---- the line
 
@@ -33,14 +33,19 @@ line-is b i e =
     fun-ext (λ q. ap (λ (n : TransactionNumber). n .0) (List·getD-map (λ (o : Open). o .number) (b .«open») q noOpen)) in
     ap (λ (n : ℕ → ℕ). lineText places n (inUse (itemAt b i .held))) (ap numberAt e ∙ tags)
 
+-- what is answered of a line t, for a buffer l
+abbrev lineShown : List ℕ → List ℕ → Shown
+lineShown l t = cond (room l 0 t) (record { answer = Accepted; end = length t }) (record { answer = ShortBuffer; end = 0 })
+
 -- it was written, or there was too little room
-pub was-written : (l t : List ℕ) {end : ℕ} → To end ≡ answer l 0 t → Accepted ≡ cond (room l 0 t) Accepted ShortBuffer
+pub was-written : (l t : List ℕ) {end : ℕ} → To end ≡ answer l 0 t → record { answer = Accepted; end = end } ≡ lineShown l t
 unfolding answer
 was-written l t {end} e =
-    by-cases (room l 0 t) (λ k. rw k)
+    by-cases (room l 0 t)
+    (λ k. let to : To end ≡ To (0 + length t) = rw k at e in let same : end ≡ 0 + length t = cc in let plain : end ≡ length t = omega arith in rw k (λ j. record { answer = Accepted; end = plain j }))
     (λ k. let none : To end ≡ NoRoom = rw k at e in let z : _≡_ {A = ℕ} 0 1 = cc in absurd (omega arith))
 
-pub was-short : (l t : List ℕ) → NoRoom ≡ answer l 0 t → ShortBuffer ≡ cond (room l 0 t) Accepted ShortBuffer
+pub was-short : (l t : List ℕ) → NoRoom ≡ answer l 0 t → record { answer = ShortBuffer; end = 0 } ≡ lineShown l t
 unfolding answer
 was-short l t e =
     by-cases (room l 0 t)
@@ -50,18 +55,18 @@ was-short l t e =
 -- ---- the answers
 
 module _ (b : Book) (i : ℕ) (l : List ℕ) where
-  pub unsound-shown : sound places b ≡ false → (Unsound ≡ showAnswer places b i l) × (l ≡ shown places b i l)
-  unfolding showAnswer shown firstOf
+  pub unsound-shown : sound places b ≡ false → (record { answer = Unsound; end = 0 } ≡ show places b i l) × (l ≡ shown places b i l)
+  unfolding show showAnswer shown firstOf
   unsound-shown s = (rw s, rw s)
 
   module _ (s : sound places b ≡ true) where
-    pub none-shown : b .count ≤ i → (NoItem ≡ showAnswer places b i l) × (l ≡ shown places b i l)
-    unfolding showAnswer shown firstOf
+    pub none-shown : b .count ≤ i → (record { answer = NoItem; end = 0 } ≡ show places b i l) × (l ≡ shown places b i l)
+    unfolding show showAnswer shown firstOf
     none-shown h = let past = le-ltb i (b .count) h in (rw (s, past), rw (s, past))
 
-    pub item-shown : {r : Answer} {m : List ℕ} → i < b .count → r ≡ cond (room l 0 (heldLine places b i)) Accepted ShortBuffer → m ≡ written l 0 (heldLine places b i)
-        → (r ≡ showAnswer places b i l) × (m ≡ shown places b i l)
-    unfolding showAnswer shown firstOf written
+    pub item-shown : {r : Shown} {m : List ℕ} → i < b .count → r ≡ lineShown l (heldLine places b i) → m ≡ written l 0 (heldLine places b i)
+        → (r ≡ show places b i l) × (m ≡ shown places b i l)
+    unfolding show showAnswer shown firstOf written
     item-shown h e f =
         let there = lt-ltb i (b .count) h in
         by-cases (room l 0 (heldLine places b i))

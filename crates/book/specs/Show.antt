@@ -3,12 +3,14 @@ use mathlib.Core.Bool.{not, cond}
 use mathlib.Core.List.{List, [], _∷_}
 use Prim.Native.Nat.{ℕ}
 use lib.Dec.{ltb}
+use lib.ListN.{length}
 use Rattle.conditions.specs.Written.{room, written}
 use Rattle.polyvalues.specs.Text.{lineText}
 use Rattle.polyvalues.specs.Polyvalues.{inUse}
 use Rattle.book.specs.declared.Answer.{Answer}
 use Rattle.book.specs.declared.Answer.the-variants.{NoItem, Unsound, ShortBuffer}
 use Rattle.book.specs.declared.Book.{Book}
+use Rattle.book.specs.declared.Shown.{Shown}
 use Rattle.book.specs.Answers.{accepted, firstOf}
 use Rattle.book.specs.Book.{itemAt, openAt}
 use Rattle.book.specs.Transactions.{unsound}
@@ -34,3 +36,7 @@ showAnswer w b i buf =
 -- the buffer afterwards: "An accepted write changes only the bytes written, from the buffer's start." A refused one leaves it as it was.
 unfoldable pub shown : ℕ → Book → ℕ → List ℕ → List ℕ
 shown w b i buf = let new : List ℕ = written buf 0 (heldLine w b i) in cond (accepted (showAnswer w b i buf)) new buf
+
+-- the call: its answer, and where the line ends, so that a caller can go on behind it
+unfoldable pub show : ℕ → Book → ℕ → List ℕ → Shown
+show w b i buf = let a : Answer = showAnswer w b i buf in record { answer = a; end = cond (accepted a) (length (heldLine w b i)) 0 }

@@ -108,3 +108,9 @@ pub struct Done {
     pub answer: Answer,
     pub book: Book,
 }
+
+// What show answers, and where its line ends in the buffer: 0 where it is refused.
+pub struct Shown {
+    pub answer: Answer,
+    pub end: usize,
+}

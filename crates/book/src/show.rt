@@ -3,15 +3,17 @@ ghost use mathlib.Core.Path.{_≡_};
 ghost use mathlib.Core.Bool.{cond};
 ghost use mathlib.Core.List.{map};
 ghost use Prim.Native.Nat.{_<_};
+ghost use lib.ListN.{length};
 ghost use Rattle.conditions.specs.Places.{places as Places·places};
 ghost use Rattle.conditions.specs.Written.{room, written};
 ghost use Rattle.book.specs.declared.Answer.the-variants.{Accepted, ShortBuffer};
 ghost use Rattle.book.specs.Book.{mostItems};
 ghost use Rattle.book.specs.SoundTest.{sound};
-ghost use Rattle.book.specs.Show.{heldLine, showAnswer, shown};
+ghost use Rattle.book.specs.Show.{heldLine, shown, show};
 use crate::Answer;
 use crate::Book;
 use crate::Open;
+use crate::Shown;
 use conditions::PLACES;
 use conditions::TransactionNumber;
 use conditions::Written;
@@ -33,40 +35,52 @@ fn numbers_at(places: [Open; PLACES]) -> [TransactionNumber; PLACES]
 }
 
 // Writes the line of an item that the book has a row for.
-fn write_held(b: Book, i: usize, buf: &mut [u8]) -> Answer
+fn write_held(b: Book, i: usize, buf: &mut [u8]) -> Shown
     requires { ⌜ i < mostItems ⌝ }
-    ensures { λ r. ⌜ r ≡ cond (room (now (buf .entry)) 0 (heldLine Places·places b i)) Accepted ShortBuffer ⌝ }
+    ensures { λ r. ⌜ r ≡ cond (room (now (buf .entry)) 0 (heldLine Places·places b i)) (record { answer = Accepted; end = length (heldLine Places·places b i) }) (record { answer = ShortBuffer; end = 0 }) ⌝ }
     ensures { λ r. ⌜ now (buf .exit) ≡ written (now (buf .entry)) 0 (heldLine Places·places b i) ⌝ }
 {
     let x = b.items[i];
     let open = b.open;
     let numbers = numbers_at(open);
     match x.held.write_text(numbers, buf, 0) {
-        Written::To(_) => Answer::Accepted,
-        Written::NoRoom => Answer::ShortBuffer,
+        Written::To(end) => Shown {
+            answer: Answer::Accepted,
+            end,
+        },
+        Written::NoRoom => Shown {
+            answer: Answer::ShortBuffer,
+            end: 0,
+        },
     }
 }
 
 // Show, where it is known whether the book is sound.
-fn show_checked(b: Book, item: u8, buf: &mut [u8], is_sound: bool) -> Answer
+fn show_checked(b: Book, item: u8, buf: &mut [u8], is_sound: bool) -> Shown
     requires { ⌜ «is_sound» ≡ sound Places·places b ⌝ }
-    ensures { λ r. ⌜ r ≡ showAnswer Places·places b item (now (buf .entry)) ⌝ }
+    ensures { λ r. ⌜ r ≡ show Places·places b item (now (buf .entry)) ⌝ }
     ensures { λ r. ⌜ now (buf .exit) ≡ shown Places·places b item (now (buf .entry)) ⌝ }
 {
     if !is_sound {
-        return Answer::Unsound;
+        return Shown {
+            answer: Answer::Unsound,
+            end: 0,
+        };
     }
     let i = item as usize;
     if b.count <= i {
-        return Answer::NoItem;
+        return Shown {
+            answer: Answer::NoItem,
+            end: 0,
+        };
     }
     write_held(b, i, buf)
 }
 
 impl Book {
     // The call: the line of an item's held pairs is written at the buffer's start.
-    pub fn show(self, item: u8, buf: &mut [u8]) -> Answer
-        ensures { λ r. ⌜ r ≡ showAnswer Places·places self item (now (buf .entry)) ⌝ }
+    pub fn show(self, item: u8, buf: &mut [u8]) -> Shown
+        ensures { λ r. ⌜ r ≡ show Places·places self item (now (buf .entry)) ⌝ }
         ensures { λ r. ⌜ now (buf .exit) ≡ shown Places·places self item (now (buf .entry)) ⌝ }
     {
         let is_sound = self.is_sound();

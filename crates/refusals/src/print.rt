@@ -46,7 +46,7 @@ pub fn answers(name: &[u8], b: Book) {
     let heard = b.hear(TransactionNumber(1), 1).answer;
     answer(heard);
     let mut line = [0u8; 64];
-    let shown = b.show(0, &mut line);
+    let shown = b.show(0, &mut line).answer;
     answer(shown);
     line_end();
 }

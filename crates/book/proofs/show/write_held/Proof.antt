@@ -1,10 +1,10 @@
 -- The line is that of the numbers at the places.
-use borrow.Author.Needs.{needs}
 use mathlib.Core.Path.{sym, ap, _∙_}
 use Rattle.conditions.specs.Places.{places}
 use Rattle.conditions.specs.Written.{answer, written}
 use Rattle.book.specs.Show.{heldLine}
 use Rattle.book.proofs.Showing.{line-is, was-written, was-short}
+use borrow.Author.Needs.{needs}
 use Rattle.book.proofs.show.write_held.Statement.{statement}
 use Rattle.book.proofs.show.write_held.Tie as tie
 
@@ -20,21 +20,21 @@ numbers-at-requires c κs = search needs
 write-text-requires : tie.Need-write-text-requires
 write-text-requires c κs = search needs
 
+enum-known-end : tie.Need-enum-known-end
+enum-known-end c = search needs
+
 enum-told : tie.Need-enum-told
 enum-told c = search needs
-
-enum-told-2 : tie.Need-enum-told-2
-enum-told-2 c = search needs
 
 same-length : tie.Need-same-length
 same-length c = search needs
 
 returns : tie.Need-returns
 returns c =
-    let b = c .before .before .before .before .before .before .before .before .before .before .args .t1 in
-    let l = c .before .before .before .before .before .before .before .before .before .before .args .buf .now in
-    let line = line-is b (c .before .before .before .before .before .before .before .before .before .before .args .i) (c .before .before .before .before .before .before .numbers-at .ensures) in
-    (was-written l (heldLine places b (c .before .before .before .before .before .before .before .before .before .before .args .i)) (sym (c .enum-told .given .1) ∙ c .before .before .before .before .write-text .ensures .0 ∙ ap (answer l 0) line), c .before .before .before .before .write-text .ensures .1 ∙ ap (written l 0) line)
+    let b = c .before .before .before .before .before .before .before .before .before .before .before .args .t1 in
+    let l = c .before .before .before .before .before .before .before .before .before .before .before .args .buf .now in
+    let line = line-is b (c .before .before .before .before .before .before .before .before .before .before .before .args .i) (c .before .before .before .before .before .before .before .numbers-at .ensures) in
+    (was-written l (heldLine places b (c .before .before .before .before .before .before .before .before .before .before .before .args .i)) (sym (c .before .end .given .1) ∙ c .before .before .before .before .before .write-text .ensures .0 ∙ ap (answer l 0) line), c .before .before .before .before .before .write-text .ensures .1 ∙ ap (written l 0) line)
 
 same-length-2 : tie.Need-same-length-2
 same-length-2 c = search needs
@@ -44,7 +44,7 @@ returns-2 c =
     let b = c .before .before .before .before .before .before .before .before .before .before .args .t1 in
     let l = c .before .before .before .before .before .before .before .before .before .before .args .buf .now in
     let line = line-is b (c .before .before .before .before .before .before .before .before .before .before .args .i) (c .before .before .before .before .before .before .numbers-at .ensures) in
-    (was-short l (heldLine places b (c .before .before .before .before .before .before .before .before .before .before .args .i)) (sym (c .enum-told2 .given .1) ∙ c .before .before .before .before .write-text .ensures .0 ∙ ap (answer l 0) line), c .before .before .before .before .write-text .ensures .1 ∙ ap (written l 0) line)
+    (was-short l (heldLine places b (c .before .before .before .before .before .before .before .before .before .before .args .i)) (sym (c .enum-told .given .1) ∙ c .before .before .before .before .write-text .ensures .0 ∙ ap (answer l 0) line), c .before .before .before .before .write-text .ensures .1 ∙ ap (written l 0) line)
 
 pub write-held-spec : {M : Type 1} → statement M
 write-held-spec =
@@ -54,8 +54,8 @@ write-held-spec =
     element-copy-out-x
     numbers-at-requires
     write-text-requires
+    enum-known-end
     enum-told
-    enum-told-2
     same-length
     returns
     same-length-2

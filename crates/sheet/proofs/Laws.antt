@@ -1,0 +1,2 @@
+-- What is true of the definitions in specs/. The crates above cite these laws and open no definition.
+pub mod Show
