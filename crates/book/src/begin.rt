@@ -161,30 +161,21 @@ fn begin_program(b: Book, p: Program) -> Begun
     begin_at(b, p, q)
 }
 
-// Begin, where it is known whether the book is sound.
-fn begin_checked(b: Book, bytes: &[u8], is_sound: bool) -> Begun
-    requires { ⌜ «is_sound» ≡ sound places b ⌝ }
-    ensures { λ r. ⌜ r ≡ begin places b (now (bytes .entry)) ⌝ }
-{
-    if !is_sound {
-        return refused(b, Answer::Unsound);
-    }
-    if bad_program(bytes) {
-        return refused(b, Answer::BadProgram);
-    }
-    let p = read(bytes);
-    if p.is_outside(b.count) {
-        return refused(b, Answer::NoItem);
-    }
-    begin_program(b, p)
-}
-
 impl Book {
     // The call: the program's bytes.
     pub fn begin(self, bytes: &[u8]) -> Begun
         ensures { λ r. ⌜ r ≡ begin places self (now (bytes .entry)) ⌝ }
     {
-        let is_sound = self.is_sound();
-        begin_checked(self, bytes, is_sound)
+        if !self.is_sound() {
+            return refused(self, Answer::Unsound);
+        }
+        if bad_program(bytes) {
+            return refused(self, Answer::BadProgram);
+        }
+        let p = read(bytes);
+        if p.is_outside(self.count) {
+            return refused(self, Answer::NoItem);
+        }
+        begin_program(self, p)
     }
 }

@@ -7,7 +7,6 @@ ghost use Rattle.conditions.specs.Sets.{member};
 ghost use Rattle.conditions.specs.Places.{places};
 ghost use Rattle.book.specs.Book.{mostDistricts, placeOf};
 ghost use Rattle.book.specs.Decide.{decide, complete, abort};
-ghost use Rattle.book.specs.SoundTest.{sound};
 use crate::Answer;
 use crate::Book;
 use crate::Done;
@@ -55,88 +54,72 @@ fn decided(b: Book, q: usize, decision: u8) -> Book
     after
 }
 
-// Complete, where it is known whether the book is sound.
-fn complete_checked(b: Book, n: TransactionNumber, is_sound: bool) -> Done
-    requires { ⌜ «is_sound» ≡ sound places b ⌝ }
-    ensures { λ r. ⌜ r ≡ complete places b (n .0) ⌝ }
-{
-    if !is_sound {
-        return Done {
-            answer: Answer::Unsound,
-            book: b,
-        };
-    }
-    let q = place_of(b.open, n);
-    if PLACES <= q {
-        return Done {
-            answer: Answer::NotOpen,
-            book: b,
-        };
-    }
-    let o = b.open[q];
-    if o.decision != 0 {
-        return Done {
-            answer: Answer::AlreadyDecided,
-            book: b,
-        };
-    }
-    if some_awaited(o, b.districts) {
-        return Done {
-            answer: Answer::NotReady,
-            book: b,
-        };
-    }
-    let after = decided(b, q, 1);
-    Done {
-        answer: Answer::Accepted,
-        book: forget(after),
-    }
-}
-
-// Abort, where it is known whether the book is sound.
-fn abort_checked(b: Book, n: TransactionNumber, is_sound: bool) -> Done
-    requires { ⌜ «is_sound» ≡ sound places b ⌝ }
-    ensures { λ r. ⌜ r ≡ abort places b (n .0) ⌝ }
-{
-    if !is_sound {
-        return Done {
-            answer: Answer::Unsound,
-            book: b,
-        };
-    }
-    let q = place_of(b.open, n);
-    if PLACES <= q {
-        return Done {
-            answer: Answer::NotOpen,
-            book: b,
-        };
-    }
-    let o = b.open[q];
-    if o.decision != 0 {
-        return Done {
-            answer: Answer::AlreadyDecided,
-            book: b,
-        };
-    }
-    let after = decided(b, q, 2);
-    Done {
-        answer: Answer::Accepted,
-        book: forget(after),
-    }
-}
-
 impl Book {
     // The call that completes.
     pub fn complete(self, n: TransactionNumber) -> Done
         ensures { λ r. ⌜ r ≡ complete places self (n .0) ⌝ }
     {
-        complete_checked(self, n, self.is_sound())
+        if !self.is_sound() {
+            return Done {
+                answer: Answer::Unsound,
+                book: self,
+            };
+        }
+        let q = place_of(self.open, n);
+        if PLACES <= q {
+            return Done {
+                answer: Answer::NotOpen,
+                book: self,
+            };
+        }
+        let o = self.open[q];
+        if o.decision != 0 {
+            return Done {
+                answer: Answer::AlreadyDecided,
+                book: self,
+            };
+        }
+        if some_awaited(o, self.districts) {
+            return Done {
+                answer: Answer::NotReady,
+                book: self,
+            };
+        }
+        let after = decided(self, q, 1);
+        Done {
+            answer: Answer::Accepted,
+            book: forget(after),
+        }
     }
 
     // The call that aborts.
     pub fn abort(self, n: TransactionNumber) -> Done
         ensures { λ r. ⌜ r ≡ abort places self (n .0) ⌝ }
     {
-        abort_checked(self, n, self.is_sound())
+        if !self.is_sound() {
+            return Done {
+                answer: Answer::Unsound,
+                book: self,
+            };
+        }
+        let q = place_of(self.open, n);
+        if PLACES <= q {
+            return Done {
+                answer: Answer::NotOpen,
+                book: self,
+            };
+        }
+        let o = self.open[q];
+        if o.decision != 0 {
+            return Done {
+                answer: Answer::AlreadyDecided,
+                book: self,
+            };
+        }
+        let after = decided(self, q, 2);
+        Done {
+            answer: Answer::Accepted,
+            book: forget(after),
+        }
     }
 }

@@ -76,50 +76,42 @@ fn gave_up(b: Book, n: TransactionNumber, d: u8, q: usize, computing: bool) -> B
     after
 }
 
-// Give up, where it is known whether the book is sound.
-fn give_up_checked(b: Book, n: TransactionNumber, d: u8, is_sound: bool) -> Done
-    requires { ⌜ «is_sound» ≡ sound places b ⌝ }
-    ensures { λ r. ⌜ r ≡ giveUp places b (n .0) d ⌝ }
-{
-    if !is_sound {
-        return Done {
-            answer: Answer::Unsound,
-            book: b,
-        };
-    }
-    let q = place_of(b.open, n);
-    if PLACES <= q {
-        return Done {
-            answer: Answer::NotOpen,
-            book: b,
-        };
-    }
-    let i = d as usize;
-    if b.districts <= i {
-        return Done {
-            answer: Answer::NoDistrict,
-            book: b,
-        };
-    }
-    let r = b.records[i];
-    if !busy_on(r, n) {
-        return Done {
-            answer: Answer::NotOnIt,
-            book: b,
-        };
-    }
-    let after = gave_up(b, n, d, q, computing_on(r, n));
-    Done {
-        answer: Answer::Accepted,
-        book: forget(after),
-    }
-}
-
 impl Book {
     // The call.
     pub fn give_up(self, n: TransactionNumber, d: u8) -> Done
         ensures { λ r. ⌜ r ≡ giveUp places self (n .0) d ⌝ }
     {
-        give_up_checked(self, n, d, self.is_sound())
+        if !self.is_sound() {
+            return Done {
+                answer: Answer::Unsound,
+                book: self,
+            };
+        }
+        let q = place_of(self.open, n);
+        if PLACES <= q {
+            return Done {
+                answer: Answer::NotOpen,
+                book: self,
+            };
+        }
+        let i = d as usize;
+        if self.districts <= i {
+            return Done {
+                answer: Answer::NoDistrict,
+                book: self,
+            };
+        }
+        let r = self.records[i];
+        if !busy_on(r, n) {
+            return Done {
+                answer: Answer::NotOnIt,
+                book: self,
+            };
+        }
+        let after = gave_up(self, n, d, q, computing_on(r, n));
+        Done {
+            answer: Answer::Accepted,
+            book: forget(after),
+        }
     }
 }

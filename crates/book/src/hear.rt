@@ -6,7 +6,6 @@ ghost use Rattle.book.specs.Rows.{rows};
 ghost use Rattle.book.specs.Book.{mostDistricts, mostItems, placeOf};
 ghost use Rattle.book.specs.Transactions.{openOf};
 ghost use Rattle.book.specs.Hear.{outcome, hearItem, heard, hear};
-ghost use Rattle.book.specs.SoundTest.{sound};
 use crate::Answer;
 use crate::Book;
 use crate::Done;
@@ -54,49 +53,41 @@ fn heard(b: Book, n: TransactionNumber, d: u8, q: Place, completed: bool) -> Boo
     after
 }
 
-// Hear, where it is known whether the book is sound.
-fn hear_checked(b: Book, n: TransactionNumber, d: u8, is_sound: bool) -> Done
-    requires { ⌜ «is_sound» ≡ sound places b ⌝ }
-    ensures { λ r. ⌜ r ≡ hear places b (n .0) d ⌝ }
-{
-    if !is_sound {
-        return Done {
-            answer: Answer::Unsound,
-            book: b,
-        };
-    }
-    let q = place_of(b.open, n);
-    if PLACES <= q {
-        return Done {
-            answer: Answer::NotOpen,
-            book: b,
-        };
-    }
-    if b.districts <= d as usize {
-        return Done {
-            answer: Answer::NoDistrict,
-            book: b,
-        };
-    }
-    let o = b.open[q];
-    if o.decision == 0 {
-        return Done {
-            answer: Answer::NotDecided,
-            book: b,
-        };
-    }
-    let after = heard(b, n, d, Place(q), o.decision == 1);
-    Done {
-        answer: Answer::Accepted,
-        book: forget(after),
-    }
-}
-
 impl Book {
     // The call.
     pub fn hear(self, n: TransactionNumber, d: u8) -> Done
         ensures { λ r. ⌜ r ≡ hear places self (n .0) d ⌝ }
     {
-        hear_checked(self, n, d, self.is_sound())
+        if !self.is_sound() {
+            return Done {
+                answer: Answer::Unsound,
+                book: self,
+            };
+        }
+        let q = place_of(self.open, n);
+        if PLACES <= q {
+            return Done {
+                answer: Answer::NotOpen,
+                book: self,
+            };
+        }
+        if self.districts <= d as usize {
+            return Done {
+                answer: Answer::NoDistrict,
+                book: self,
+            };
+        }
+        let o = self.open[q];
+        if o.decision == 0 {
+            return Done {
+                answer: Answer::NotDecided,
+                book: self,
+            };
+        }
+        let after = heard(self, n, d, Place(q), o.decision == 1);
+        Done {
+            answer: Answer::Accepted,
+            book: forget(after),
+        }
     }
 }

@@ -4,7 +4,6 @@ ghost use Prim.Native.Nat.{ℕ, _<_};
 ghost use Rattle.conditions.specs.Places.{places};
 ghost use Rattle.book.specs.Book.{mostDistricts, placeOf};
 ghost use Rattle.book.specs.Ready.{reported, readied, ready};
-ghost use Rattle.book.specs.SoundTest.{sound};
 use crate::Answer;
 use crate::Book;
 use crate::Done;
@@ -43,50 +42,42 @@ fn readied(b: Book, q: usize, d: usize) -> Book
     after
 }
 
-// Ready, where it is known whether the book is sound.
-fn ready_checked(b: Book, n: TransactionNumber, d: u8, is_sound: bool) -> Done
-    requires { ⌜ «is_sound» ≡ sound places b ⌝ }
-    ensures { λ r. ⌜ r ≡ ready places b (n .0) d ⌝ }
-{
-    if !is_sound {
-        return Done {
-            answer: Answer::Unsound,
-            book: b,
-        };
-    }
-    let q = place_of(b.open, n);
-    if PLACES <= q {
-        return Done {
-            answer: Answer::NotOpen,
-            book: b,
-        };
-    }
-    let i = d as usize;
-    if b.districts <= i {
-        return Done {
-            answer: Answer::NoDistrict,
-            book: b,
-        };
-    }
-    let r = b.records[i];
-    if !computing_on(r, n) {
-        return Done {
-            answer: Answer::NotOnIt,
-            book: b,
-        };
-    }
-    let after = readied(b, q, i);
-    Done {
-        answer: Answer::Accepted,
-        book: forget(after),
-    }
-}
-
 impl Book {
     // The call.
     pub fn ready(self, n: TransactionNumber, d: u8) -> Done
         ensures { λ r. ⌜ r ≡ ready places self (n .0) d ⌝ }
     {
-        ready_checked(self, n, d, self.is_sound())
+        if !self.is_sound() {
+            return Done {
+                answer: Answer::Unsound,
+                book: self,
+            };
+        }
+        let q = place_of(self.open, n);
+        if PLACES <= q {
+            return Done {
+                answer: Answer::NotOpen,
+                book: self,
+            };
+        }
+        let i = d as usize;
+        if self.districts <= i {
+            return Done {
+                answer: Answer::NoDistrict,
+                book: self,
+            };
+        }
+        let r = self.records[i];
+        if !computing_on(r, n) {
+            return Done {
+                answer: Answer::NotOnIt,
+                book: self,
+            };
+        }
+        let after = readied(self, q, i);
+        Done {
+            answer: Answer::Accepted,
+            book: forget(after),
+        }
     }
 }

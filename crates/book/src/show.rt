@@ -8,7 +8,6 @@ ghost use Rattle.conditions.specs.Places.{places as Places·places};
 ghost use Rattle.conditions.specs.Written.{room, written};
 ghost use Rattle.book.specs.declared.Answer.the-variants.{Accepted, ShortBuffer};
 ghost use Rattle.book.specs.Book.{mostItems};
-ghost use Rattle.book.specs.SoundTest.{sound};
 ghost use Rattle.book.specs.Show.{heldLine, shown, show};
 use crate::Answer;
 use crate::Book;
@@ -55,35 +54,25 @@ fn write_held(b: Book, i: usize, buf: &mut [u8]) -> Shown
     }
 }
 
-// Show, where it is known whether the book is sound.
-fn show_checked(b: Book, item: u8, buf: &mut [u8], is_sound: bool) -> Shown
-    requires { ⌜ «is_sound» ≡ sound Places·places b ⌝ }
-    ensures { λ r. ⌜ r ≡ show Places·places b item (now (buf .entry)) ⌝ }
-    ensures { λ r. ⌜ now (buf .exit) ≡ shown Places·places b item (now (buf .entry)) ⌝ }
-{
-    if !is_sound {
-        return Shown {
-            answer: Answer::Unsound,
-            end: 0,
-        };
-    }
-    let i = item as usize;
-    if b.count <= i {
-        return Shown {
-            answer: Answer::NoItem,
-            end: 0,
-        };
-    }
-    write_held(b, i, buf)
-}
-
 impl Book {
     // The call: the line of an item's held pairs is written at the buffer's start.
     pub fn show(self, item: u8, buf: &mut [u8]) -> Shown
         ensures { λ r. ⌜ r ≡ show Places·places self item (now (buf .entry)) ⌝ }
         ensures { λ r. ⌜ now (buf .exit) ≡ shown Places·places self item (now (buf .entry)) ⌝ }
     {
-        let is_sound = self.is_sound();
-        show_checked(self, item, buf, is_sound)
+        if !self.is_sound() {
+            return Shown {
+                answer: Answer::Unsound,
+                end: 0,
+            };
+        }
+        let i = item as usize;
+        if self.count <= i {
+            return Shown {
+                answer: Answer::NoItem,
+                end: 0,
+            };
+        }
+        write_held(self, i, buf)
     }
 }
