@@ -1,20 +1,19 @@
 -- The part of the line's buffer that show is lent, and what show did to it.
 use mathlib.Core.Path.{_≡_, refl, sym, ap, _∙_}
-use mathlib.Core.Bool.{true, false, not, cond}
+use mathlib.Core.Bool.{true, false, not}
 use mathlib.Core.List.{List, [], _∷_, _++_, append-assoc}
-use Prim.Native.Nat.{ℕ, _+_, _-_, _≤_, _<_}
+use Prim.Native.Nat.{ℕ, _+_, _-_, _≤_}
 use native.Mathlib.Omega.{arith}
-use lib.Dec.{leb, ltb}
+use lib.Dec.{ltb}
 use lib.ListN.{length, take, drop, replicate, length-drop, length-replicate, take-append-drop}
 use lib.Seq.{sets, sets-eq, length-take-le, drop-append-le, drop-drop}
 use borrow.Author.Tests.{leb-true, not-false}
 use borrow.Rule.Slice.PartMut.{midOf, putMid, put-same}
 use Rattle.conditions.specs.Written.{room, written, Put}
-use Rattle.book.specs.declared.Answer.{Answer}
 use Rattle.book.specs.declared.Answer.the-variants.{NoItem, Unsound, ShortBuffer}
 use Rattle.book.specs.declared.Book.{Book}
 use Rattle.book.specs.declared.Shown.{Shown}
-use Rattle.book.specs.Answers.{accepted, firstOf}
+use Rattle.book.specs.Answers.{accepted}
 use Rattle.book.specs.Transactions.{unsound}
 use Rattle.book.specs.Show.{heldLine, showAnswer, shown, show}
 use Rattle.book.proofs.Laws.Answers.{test-false, later-accepted}

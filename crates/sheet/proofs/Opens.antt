@@ -1,5 +1,5 @@
 -- What open answers of a sheet s, as it was read.
-use mathlib.Core.Path.{_≡_, ap, _∙_}
+use mathlib.Core.Path.{_≡_}
 use mathlib.Core.List.{List, []}
 use Prim.Native.Nat.{ℕ, _≤_, _<_}
 use lib.ListN.{length}
@@ -7,7 +7,6 @@ use borrow.Author.Tests.{lt-ltb, le-ltb}
 use Rattle.book.specs.declared.Answer.the-variants.{Accepted, Malformed, TooLong}
 use Rattle.book.specs.declared.Book.{Book}
 use Rattle.book.specs.Open.{opened}
-use Rattle.sheet.specs.declared.opening.Opened.{Opened}
 use Rattle.sheet.specs.Readers.{wrong, right}
 use Rattle.sheet.specs.Sections.{Sheet, sheet}
 use Rattle.sheet.specs.Open.{mostBytes, refused, openedSheet, openSheet}

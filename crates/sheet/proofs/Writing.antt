@@ -1,8 +1,8 @@
 -- Lines that are put into a buffer, byte by byte.
-use mathlib.Core.Path.{_≡_, refl, sym, ap, _∙_}
+use mathlib.Core.Path.{_≡_, sym, ap, _∙_}
 use mathlib.Core.Bool.{true, false}
 use mathlib.Core.List.{List, [], _∷_, _++_, append-nil, append-assoc}
-use Prim.Native.Nat.{ℕ, suc, _+_, _-_, _^_, _≤_, _<_}
+use Prim.Native.Nat.{ℕ, _+_, _-_, _^_, _≤_, _<_}
 use Prim.Native.Char.{code}
 use native.Mathlib.Omega.{arith}
 use lib.Dec.{leb}
@@ -14,7 +14,7 @@ use Rattle.conditions.specs.declared.text.Written.the-variants.{To, NoRoom}
 use Rattle.conditions.specs.Text.{bytes, digits, decimal, prefixed, joined}
 use Rattle.conditions.specs.Written.{answer, written, Put}
 use Rattle.conditions.proofs.Laws.Text.{decimal-le, decimal-one}
-use Rattle.conditions.proofs.Putting.{put-none, put-then, put-length}
+use Rattle.conditions.proofs.Putting.{put-length}
 use Rattle.book.specs.declared.Answer.{Answer}
 use Rattle.book.specs.declared.Answer.the-variants.{Accepted}
 use Rattle.book.specs.Answers.{answerNumber, accepted}

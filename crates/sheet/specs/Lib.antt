@@ -6,3 +6,4 @@ pub mod Open
 pub mod Lines
 pub mod Play
 pub mod Output
+pub mod Sample

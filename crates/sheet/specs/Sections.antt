@@ -1,5 +1,4 @@
 -- "Sections in a fixed order, each after its count" (document 01, The sheet and the program)
-use mathlib.Core.Bool.{cond}
 use mathlib.Core.List.{List, [], _∷_, _++_}
 use Prim.Native.Nat.{ℕ}
 use lib.Dec.{ltb}

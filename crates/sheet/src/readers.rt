@@ -118,16 +118,18 @@ pub(crate) fn value(sheet: &[u8], at: usize) -> ValueRead
         };
     }
     let value = of_bytes(sheet[at], sheet[at + 1]);
+    let next = at + 2;
     if !in_range(value as i32) {
+        let first = at;
         return ValueRead {
             good: false,
-            place: at,
+            place: first,
             value: 0,
         };
     }
     ValueRead {
         good: true,
-        place: at + 2,
+        place: next,
         value,
     }
 }

@@ -1,3 +1,4 @@
+-- The loop's invariant: the bytes that wait are within the buffer.
 use mathlib.Core.Path.{sym}
 use lib.Seq.{length-take-le}
 use mathlib.Core.Path.{_≡_}
@@ -7,12 +8,6 @@ use lib.ListN.{length}
 use borrow.Author.Needs.{needs}
 use Rattle.ovenmoth.proofs.play_all.Statement.{statement}
 use Rattle.ovenmoth.proofs.play_all.Tie as tie
-use Rattle.ovenmoth.proofs.play_all.Reads as reads
-use Rattle.ovenmoth.proofs.play_all.Lts as lts
-use Rattle.io.proofs.write_all.Reads as write-all-reads
-use Rattle.ovenmoth.proofs.room.Reads as room-reads
-use Rattle.sheet.proofs.event_at.Reads as event-at-reads
-use Rattle.sheet.proofs.play.Reads as play-reads
 
 abbrev Inv-loop : tie.InvT-loop
 Inv-loop sheet out₀ n count book₀ at₀ waiting₀ position₀ t15 out book at waiting position = (position ≤ count) × (waiting ≤ n) × (length out ≡ n) × (n < 2 ^ 64)
@@ -20,127 +15,96 @@ Inv-loop sheet out₀ n count book₀ at₀ waiting₀ position₀ t15 out book 
 abbrev μ-loop : tie.MeasureT-loop
 μ-loop sheet out₀ n count book₀ at₀ waiting₀ position₀ t15 out book at waiting position = count - position
 
--- src/main.rt:44:5
 loop-holds : tie.Need-loop-holds Inv-loop μ-loop
 loop-holds c = search needs
 
--- src/main.rt:45:45
 event-at-requires : tie.Need-event-at-requires Inv-loop μ-loop
 event-at-requires c κs = search needs
 
--- src/main.rt:45:29
 enum-known-event : tie.Need-enum-known-event Inv-loop μ-loop
 enum-known-event c = search needs
 
--- src/main.rt:46:13
 enum-told : tie.Need-enum-told Inv-loop μ-loop
 enum-told c = search needs
 
--- src/main.rt:46:13
 same-length : tie.Need-same-length Inv-loop μ-loop
 same-length c = search needs
 
--- src/main.rt:46:13
 returns : tie.Need-returns Inv-loop μ-loop
 returns c = search needs
 
--- src/main.rt:48:9
 add-position : tie.Need-add-position Inv-loop μ-loop
 add-position c = search needs
 
--- src/main.rt:49:9
 room-requires : tie.Need-room-requires Inv-loop μ-loop
 room-requires c κs = search needs
 
--- src/main.rt:50:64
 sub-play : tie.Need-sub-play Inv-loop μ-loop
 sub-play c = search needs
 
--- src/main.rt:50:64
 part-play-start : tie.Need-part-play-start Inv-loop μ-loop
 part-play-start c = search needs
 
--- src/main.rt:50:64
 part-play-end : tie.Need-part-play-end Inv-loop μ-loop
 part-play-end c = search needs
 
--- src/main.rt:50:13
 play-requires : tie.Need-play-requires Inv-loop μ-loop
 play-requires c κs = search needs
 
--- src/main.rt:52:25
 enum-known-written : tie.Need-enum-known-written Inv-loop μ-loop
 enum-known-written c = search needs
 
--- src/main.rt:53:13
 enum-told-2 : tie.Need-enum-told-2 Inv-loop μ-loop
 enum-told-2 c = search needs
 
--- src/main.rt:53:13
 same-length-2 : tie.Need-same-length-2 Inv-loop μ-loop
 same-length-2 c = search needs
 
--- src/main.rt:53:13
 returns-2 : tie.Need-returns-2 Inv-loop μ-loop
 returns-2 c = search needs
 
--- src/main.rt:55:12
 sub-if1 : tie.Need-sub-if1 Inv-loop μ-loop
 sub-if1 c = search needs
 
--- src/main.rt:56:13
 same-length-3 : tie.Need-same-length-3 Inv-loop μ-loop
 same-length-3 c = search needs
 
--- src/main.rt:56:13
 returns-3 : tie.Need-returns-3 Inv-loop μ-loop
 returns-3 c = search needs
 
--- src/main.rt:58:9
 add-waiting : tie.Need-add-waiting Inv-loop μ-loop
 add-waiting c = record { fits = omega (arith, c .if1 .left, c .before .before .before .before .before .before .before .before .room .ensures, c .before .before .before .before .before .before .before .before .before .before .before .before .before .before .before .loop .inv .2, c .before .before .before .before .before .before .before .before .before .before .before .before .before .before .before .loop .inv .3) }
 
--- src/main.rt:44:5
 loop-less : tie.Need-loop-less Inv-loop μ-loop
 loop-less c = search needs
 
--- src/main.rt:44:5
 loop-again : tie.Need-loop-again Inv-loop μ-loop
 loop-again c = search needs
 
--- src/main.rt:62:37
 slice-reshare-prefix-write-all : tie.Need-slice-reshare-prefix-write-all Inv-loop μ-loop
 slice-reshare-prefix-write-all c = search needs
 
--- src/main.rt:62:37
 slice-aggregate-write-all : tie.Need-slice-aggregate-write-all Inv-loop μ-loop
 slice-aggregate-write-all c = sym (length-take-le _ _ (omega (arith, c .before .before .loop .inv .1, c .before .before .loop .inv .2)))
 
--- src/main.rt:62:8
 write-all-requires : tie.Need-write-all-requires Inv-loop μ-loop
 write-all-requires c κs = search needs
 
--- src/main.rt:63:38
 slice-aggregate-write-all-2 : tie.Need-slice-aggregate-write-all-2 Inv-loop μ-loop
 slice-aggregate-write-all-2 c = search needs
 
--- src/main.rt:63:9
 write-all-requires-2 : tie.Need-write-all-requires-2 Inv-loop μ-loop
 write-all-requires-2 c κs = search needs
 
--- src/main.rt:37:1
 same-length-4 : tie.Need-same-length-4 Inv-loop μ-loop
 same-length-4 c = search needs
 
--- src/main.rt:37:1
 returns-4 : tie.Need-returns-4 Inv-loop μ-loop
 returns-4 c = search needs
 
--- src/main.rt:37:1
 same-length-5 : tie.Need-same-length-5 Inv-loop μ-loop
 same-length-5 c = search needs
 
--- src/main.rt:37:1
 returns-5 : tie.Need-returns-5 Inv-loop μ-loop
 returns-5 c = search needs
 

@@ -1,59 +1,43 @@
+-- What is written is a part of the buffer.
 use mathlib.Core.Path.{sym}
-use native.Mathlib.Omega.{arith}
 use lib.Seq.{length-take-le}
 use borrow.Author.Needs.{needs}
 use Rattle.ovenmoth.proofs.refuse.Statement.{statement}
 use Rattle.ovenmoth.proofs.refuse.Tie as tie
-use Rattle.ovenmoth.proofs.refuse.Reads as reads
-use Rattle.ovenmoth.proofs.refuse.Lts as lts
-use Rattle.io.proofs.write_all.Reads as write-all-reads
-use Rattle.sheet.proofs.write_refusal.Reads as write-refusal-reads
 
--- src/main.rt:69:28
 write-refusal-requires : tie.Need-write-refusal-requires
 write-refusal-requires c κs = search needs
 
--- src/main.rt:69:21
 enum-known-end : tie.Need-enum-known-end
 enum-known-end c = search needs
 
--- src/main.rt:70:9
 enum-told : tie.Need-enum-told
 enum-told c = search needs
 
--- src/main.rt:70:9
 same-length : tie.Need-same-length
 same-length c = search needs
 
--- src/main.rt:70:9
 returns : tie.Need-returns
 returns c = search needs
 
--- src/main.rt:73:38
 slice-reshare-prefix-write-all : tie.Need-slice-reshare-prefix-write-all
 slice-reshare-prefix-write-all c = search needs
 
--- src/main.rt:73:38
 slice-aggregate-write-all : tie.Need-slice-aggregate-write-all
 slice-aggregate-write-all c = sym (length-take-le _ _ (c .before .if1 .taken))
 
--- src/main.rt:73:9
 write-all-requires : tie.Need-write-all-requires
 write-all-requires c κs = search needs
 
--- src/main.rt:68:1
 same-length-2 : tie.Need-same-length-2
 same-length-2 c = search needs
 
--- src/main.rt:68:1
 returns-2 : tie.Need-returns-2
 returns-2 c = search needs
 
--- src/main.rt:68:1
 same-length-3 : tie.Need-same-length-3
 same-length-3 c = search needs
 
--- src/main.rt:68:1
 returns-3 : tie.Need-returns-3
 returns-3 c = search needs
 

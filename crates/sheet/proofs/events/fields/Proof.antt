@@ -1,74 +1,55 @@
+-- Each kind has its reader.
 use borrow.Author.Tests.{ne-eqb}
 use Rattle.sheet.specs.Events.{fields}
 use borrow.Author.Needs.{needs}
 use Rattle.sheet.proofs.events.fields.Statement.{statement}
 use Rattle.sheet.proofs.events.fields.Tie as tie
-use Rattle.sheet.proofs.events.fields.Reads as reads
-use Rattle.sheet.proofs.events.fields.Lts as lts
-use Rattle.sheet.proofs.events.at_district.Reads as at-district-reads
-use Rattle.sheet.proofs.events.of_item.Reads as of-item-reads
-use Rattle.sheet.proofs.events.on_number.Reads as on-number-reads
-use Rattle.sheet.proofs.events.program.Reads as program-reads
 
--- src/events.rt:142:9
 program-requires : tie.Need-program-requires
 program-requires c κs = search needs
 
--- src/events.rt:142:9
 returns : tie.Need-returns
 unfolding fields
 returns c = rw (c .before .if1 .taken) (c .program .ensures)
 
--- src/events.rt:145:9
 at-district-requires : tie.Need-at-district-requires
 at-district-requires c κs = search needs
 
--- src/events.rt:145:9
 returns-2 : tie.Need-returns-2
 unfolding fields
 returns-2 c = rw (c .before .if2 .taken) (rw (c .before .if2 .taken) at (c .at-district .ensures))
 
--- src/events.rt:148:9
 at-district-requires-2 : tie.Need-at-district-requires-2
 at-district-requires-2 c κs = search needs
 
--- src/events.rt:148:9
 returns-3 : tie.Need-returns-3
 unfolding fields
 returns-3 c = rw (c .before .if3 .taken) (rw (c .before .if3 .taken) at (c .at-district2 .ensures))
 
--- src/events.rt:151:9
 on-number-requires : tie.Need-on-number-requires
 on-number-requires c κs = search needs
 
--- src/events.rt:151:9
 returns-4 : tie.Need-returns-4
 unfolding fields
 returns-4 c = rw (c .before .if4 .taken) (rw (c .before .if4 .taken) at (c .on-number .ensures))
 
--- src/events.rt:154:9
 on-number-requires-2 : tie.Need-on-number-requires-2
 on-number-requires-2 c κs = search needs
 
--- src/events.rt:154:9
 returns-5 : tie.Need-returns-5
 unfolding fields
 returns-5 c = rw (c .before .if5 .taken) (rw (c .before .if5 .taken) at (c .on-number2 .ensures))
 
--- src/events.rt:157:9
 at-district-requires-3 : tie.Need-at-district-requires-3
 at-district-requires-3 c κs = search needs
 
--- src/events.rt:157:9
 returns-6 : tie.Need-returns-6
 unfolding fields
 returns-6 c = rw (c .before .if6 .taken) (rw (c .before .if6 .taken) at (c .at-district3 .ensures))
 
--- src/events.rt:159:5
 of-item-requires : tie.Need-of-item-requires
 of-item-requires c κs = search needs
 
--- src/events.rt:138:1
 returns-7 : tie.Need-returns-7
 unfolding fields
 returns-7 c = rw (ne-eqb _ 1 (c .before .before .before .before .before .before .if1 .left), ne-eqb _ 2 (c .before .before .before .before .before .if2 .left), ne-eqb _ 3 (c .before .before .before .before .if3 .left), ne-eqb _ 4 (c .before .before .before .if4 .left), ne-eqb _ 5 (c .before .before .if5 .left), ne-eqb _ 6 (c .before .if6 .left)) (c .of-item .ensures)

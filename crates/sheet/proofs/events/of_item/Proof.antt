@@ -1,26 +1,20 @@
+-- The reader of the item.
 use Rattle.sheet.specs.Events.{ofItem}
 use Rattle.sheet.proofs.Reading.{went-wrong, went-right}
 use borrow.Author.Needs.{needs}
 use Rattle.sheet.proofs.events.of_item.Statement.{statement}
 use Rattle.sheet.proofs.events.of_item.Tie as tie
-use Rattle.sheet.proofs.events.of_item.Reads as reads
-use Rattle.sheet.proofs.events.of_item.Lts as lts
-use Rattle.sheet.proofs.readers.byte.Reads as byte-reads
 
--- src/events.rt:126:9
 byte-requires : tie.Need-byte-requires
 byte-requires c κs = search needs
 
--- src/events.rt:128:9
 returns : tie.Need-returns
 unfolding ofItem
 returns c = rw (went-wrong (c .before .before .byte .ensures .0) (c .if1 .taken))
 
--- src/events.rt:130:16
 cast-item : tie.Need-cast-item
 cast-item c = search needs
 
--- src/events.rt:123:1
 returns-2 : tie.Need-returns-2
 unfolding ofItem
 returns-2 c = rw (went-right (c .before .before .before .byte .ensures .0) (c .before .if1 .left))

@@ -1,36 +1,27 @@
+-- Each reader in its turn.
 use Rattle.sheet.specs.Events.{program}
 use Rattle.sheet.proofs.Reading.{went-wrong, went-right}
 use borrow.Author.Needs.{needs}
 use Rattle.sheet.proofs.events.program.Statement.{statement}
 use Rattle.sheet.proofs.events.program.Tie as tie
-use Rattle.sheet.proofs.events.program.Reads as reads
-use Rattle.sheet.proofs.events.program.Lts as lts
-use Rattle.sheet.proofs.readers.byte.Reads as byte-reads
-use Rattle.sheet.proofs.readers.part.Reads as part-reads
 
--- src/events.rt:51:9
 byte-requires : tie.Need-byte-requires
 byte-requires c κs = search needs
 
--- src/events.rt:53:9
 returns : tie.Need-returns
 unfolding program
 returns c = rw (went-wrong (c .before .before .byte .ensures .0) (c .if1 .taken))
 
--- src/events.rt:56:33
 mul-part : tie.Need-mul-part
 mul-part c = search needs
 
--- src/events.rt:56:9
 part-requires : tie.Need-part-requires
 part-requires c κs = search needs
 
--- src/events.rt:58:9
 returns-2 : tie.Need-returns-2
 unfolding program
 returns-2 c = rw (went-right (c .before .before .before .before .before .before .byte .ensures .0) (c .before .before .before .before .if1 .left), went-wrong (c .before .before .part .ensures) (c .if2 .taken))
 
--- src/events.rt:48:1
 returns-3 : tie.Need-returns-3
 unfolding program
 returns-3 c = rw (went-right (c .before .before .before .before .before .before .byte .ensures .0) (c .before .before .before .before .if1 .left), went-right (c .before .before .part .ensures) (c .if2 .left))

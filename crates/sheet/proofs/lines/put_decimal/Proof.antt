@@ -1,40 +1,30 @@
+-- There is room for twenty digits, so that it is written.
 use native.Mathlib.Omega.{arith}
 use mathlib.Core.Path.{sym, _∙_}
 use Rattle.conditions.proofs.Laws.Text.{decimal-le}
-use Rattle.conditions.proofs.Putting.{put-none}
 use Rattle.sheet.proofs.Writing.{written-put, never-refused}
 use borrow.Author.Needs.{needs}
 use Rattle.sheet.proofs.lines.put_decimal.Statement.{statement}
 use Rattle.sheet.proofs.lines.put_decimal.Tie as tie
-use Rattle.sheet.proofs.lines.put_decimal.Reads as reads
-use Rattle.sheet.proofs.lines.put_decimal.Lts as lts
-use Rattle.conditions.proofs.write_decimal.Reads as write-decimal-reads
 
--- src/lines.rt:36:28
 write-decimal-requires : tie.Need-write-decimal-requires
 write-decimal-requires c κs = search needs
 
--- src/lines.rt:36:21
 enum-known-end : tie.Need-enum-known-end
 enum-known-end c = search needs
 
--- src/lines.rt:37:9
 enum-told : tie.Need-enum-told
 enum-told c = search needs
 
--- src/lines.rt:37:9
 same-length : tie.Need-same-length
 same-length c = search needs
 
--- src/lines.rt:37:9
 returns : tie.Need-returns
 returns c = absurd (never-refused _ _ _ (omega (arith, c .before .before .before .before .before .before .before .pre, decimal-le 19 (c .before .before .before .before .before .before .before .args .n) (omega arith))) (sym (c .enum-told .given .1) ∙ c .before .before .before .before .write-decimal .ensures .0))
 
--- src/lines.rt:31:1
 same-length-2 : tie.Need-same-length-2
 same-length-2 c = search needs
 
--- src/lines.rt:31:1
 returns-2 : tie.Need-returns-2
 returns-2 c =
     let few = decimal-le 19 (c .before .before .before .before .before .before .before .before .args .n) (omega arith) in

@@ -1,26 +1,19 @@
+-- The space, and then the number.
 use native.Mathlib.Omega.{arith}
 use Rattle.conditions.proofs.Putting.{put-then}
 use borrow.Author.Needs.{needs}
 use Rattle.sheet.proofs.lines.put_field.Statement.{statement}
 use Rattle.sheet.proofs.lines.put_field.Tie as tie
-use Rattle.sheet.proofs.lines.put_field.Reads as reads
-use Rattle.sheet.proofs.lines.put_field.Lts as lts
-use Rattle.sheet.proofs.lines.put_byte.Reads as put-byte-reads
-use Rattle.sheet.proofs.lines.put_decimal.Reads as put-decimal-reads
 
--- src/lines.rt:48:9
 put-byte-requires : tie.Need-put-byte-requires
 put-byte-requires c κs = search needs
 
--- src/lines.rt:49:5
 put-decimal-requires : tie.Need-put-decimal-requires
 put-decimal-requires c κs = search needs
 
--- src/lines.rt:43:1
 same-length : tie.Need-same-length
 same-length c = search needs
 
--- src/lines.rt:43:1
 returns : tie.Need-returns
 returns c = (put-then (c .before .before .before .before .before .before .put-byte .ensures) (c .before .before .put-decimal .ensures .0), omega (arith, c .before .before .before .before .before .before .put-byte .ensures .ends, c .before .before .put-decimal .ensures .1))
 

@@ -1,27 +1,20 @@
+-- The head, and then the line feed.
 use native.Mathlib.Omega.{arith}
 use Rattle.conditions.proofs.Putting.{put-then}
 use Rattle.sheet.proofs.Writing.{plain-line}
 use borrow.Author.Needs.{needs}
 use Rattle.sheet.proofs.lines.put_plain.Statement.{statement}
 use Rattle.sheet.proofs.lines.put_plain.Tie as tie
-use Rattle.sheet.proofs.lines.put_plain.Reads as reads
-use Rattle.sheet.proofs.lines.put_plain.Lts as lts
-use Rattle.sheet.proofs.lines.put_byte.Reads as put-byte-reads
-use Rattle.sheet.proofs.lines.put_head.Reads as put-head-reads
 
--- src/lines.rt:67:9
 put-head-requires : tie.Need-put-head-requires
 put-head-requires c κs = search needs
 
--- src/lines.rt:68:5
 put-byte-requires : tie.Need-put-byte-requires
 put-byte-requires c κs = search needs
 
--- src/lines.rt:63:1
 same-length : tie.Need-same-length
 same-length c = search needs
 
--- src/lines.rt:63:1
 returns : tie.Need-returns
 returns c = (rw (plain-line _ _) at (put-then (c .before .before .before .before .before .before .put-head .ensures .0) (c .before .before .put-byte .ensures)), omega (arith, c .before .before .before .before .before .before .put-head .ensures .1, c .before .before .put-byte .ensures .ends))
 

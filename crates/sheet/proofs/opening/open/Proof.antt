@@ -1,4 +1,5 @@
-use mathlib.Core.Path.{sym, _∙_}
+-- Each section in its turn; the first that is wrong decides.
+use mathlib.Core.Path.{_∙_}
 use Rattle.conditions.specs.Places.{places}
 use Rattle.book.specs.Openings.{openingsOf}
 use Rattle.book.proofs.Laws.Openings.{rows-opened}
@@ -8,75 +9,53 @@ use Rattle.sheet.proofs.Opens.{too-long, malformed, good}
 use borrow.Author.Needs.{needs}
 use Rattle.sheet.proofs.opening.open.Statement.{statement}
 use Rattle.sheet.proofs.opening.open.Tie as tie
-use Rattle.sheet.proofs.opening.open.Reads as reads
-use Rattle.sheet.proofs.opening.open.Lts as lts
-use Rattle.book.proofs.opened.Reads as opened-reads
-use Rattle.sheet.proofs.opening.refused.Reads as refused-reads
-use Rattle.sheet.proofs.sections.districts.Reads as districts-reads
-use Rattle.sheet.proofs.sections.events.Reads as events-reads
-use Rattle.sheet.proofs.sections.items.Reads as items-reads
 
--- src/opening.rt:46:9
 refused-requires : tie.Need-refused-requires
 refused-requires c κs = search needs
 
--- src/opening.rt:46:9
 returns : tie.Need-returns
 returns c = c .refused .ensures ∙ too-long places _ (c .before .if1 .taken)
 
--- src/opening.rt:48:9
 districts-requires : tie.Need-districts-requires
 districts-requires c κs = search needs
 
--- src/opening.rt:50:9
 refused-requires-2 : tie.Need-refused-requires-2
 refused-requires-2 c κs = search needs
 
--- src/opening.rt:50:9
 returns-2 : tie.Need-returns-2
 unfolding sheet
 returns-2 c = c .refused2 .ensures ∙ malformed places _ (c .before .before .before .before .if1 .left) (rw (went-wrong (c .before .before .before .districts .ensures) (c .before .if2 .taken)))
 
--- src/opening.rt:52:9
 items-requires : tie.Need-items-requires
 items-requires c κs = search needs
 
--- src/opening.rt:54:9
 refused-requires-3 : tie.Need-refused-requires-3
 refused-requires-3 c κs = search needs
 
--- src/opening.rt:54:9
 returns-3 : tie.Need-returns-3
 unfolding sheet
 returns-3 c = c .refused3 .ensures ∙ malformed places _ (c .before .before .before .before .before .before .before .if1 .left) (rw (went-right (c .before .before .before .before .before .before .districts .ensures) (c .before .before .before .before .if2 .left), went-wrong (c .before .before .before .items .ensures .0) (c .before .if3 .taken)))
 
--- src/opening.rt:56:9
 events-requires : tie.Need-events-requires
 events-requires c κs = search needs
 
--- src/opening.rt:58:9
 refused-requires-4 : tie.Need-refused-requires-4
 refused-requires-4 c κs = search needs
 
--- src/opening.rt:58:9
 returns-4 : tie.Need-returns-4
 unfolding sheet
 returns-4 c = c .refused4 .ensures ∙ malformed places _ (c .before .before .before .before .before .before .before .before .before .before .if1 .left) (rw (went-right (c .before .before .before .before .before .before .before .before .before .districts .ensures) (c .before .before .before .before .before .before .before .if2 .left), went-right (c .before .before .before .before .before .before .items .ensures .0) (c .before .before .before .before .if3 .left), went-wrong (c .before .before .before .events .ensures .1) (c .before .if4 .taken)))
 
--- src/opening.rt:62:9
 refused-requires-5 : tie.Need-refused-requires-5
 refused-requires-5 c κs = search needs
 
--- src/opening.rt:62:9
 returns-5 : tie.Need-returns-5
 unfolding sheet
 returns-5 c = c .refused5 .ensures ∙ malformed places _ (c .before .before .before .before .before .before .before .before .before .before .before .if1 .left) (rw (went-right (c .before .before .before .before .before .before .before .before .before .before .districts .ensures) (c .before .before .before .before .before .before .before .before .if2 .left), went-right (c .before .before .before .before .before .before .before .items .ensures .0) (c .before .before .before .before .before .if3 .left), went-right (c .before .before .before .before .events .ensures .1) (c .before .before .if4 .left)) (end-left _ _ _ (c .before .if5 .taken)))
 
--- src/opening.rt:68:15
 opened-requires : tie.Need-opened-requires
 opened-requires c κs = search needs
 
--- src/opening.rt:41:1
 returns-6 : tie.Need-returns-6
 unfolding sheet
 returns-6 c =

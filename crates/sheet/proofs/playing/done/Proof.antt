@@ -1,22 +1,17 @@
+-- The plain line.
 use native.Mathlib.Omega.{arith}
 use Rattle.sheet.specs.Play.{ofDone}
 use Rattle.sheet.proofs.Plays.{plays}
 use borrow.Author.Needs.{needs}
 use Rattle.sheet.proofs.playing.done.Statement.{statement}
 use Rattle.sheet.proofs.playing.done.Tie as tie
-use Rattle.sheet.proofs.playing.done.Reads as reads
-use Rattle.sheet.proofs.playing.done.Lts as lts
-use Rattle.sheet.proofs.lines.put_plain.Reads as put-plain-reads
 
--- src/playing.rt:78:9
 put-plain-requires : tie.Need-put-plain-requires
 put-plain-requires c κs = search needs
 
--- src/playing.rt:72:1
 same-length : tie.Need-same-length
 same-length c = search needs
 
--- src/playing.rt:72:1
 returns : tie.Need-returns
 returns c = plays (ofDone (c .before .before .before .before .before .before .args .x)) (c .before .before .before .before .before .before .args .position) (c .before .before .put-plain .ensures .0) (omega (arith, c .before .before .before .before .before .before .pre, c .before .before .put-plain .ensures .1))
 

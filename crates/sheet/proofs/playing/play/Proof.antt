@@ -1,3 +1,4 @@
+-- Each event has its call.
 use mathlib.Core.Path.{sym, ap, _∙_}
 use Rattle.conditions.specs.Places.{places}
 use Rattle.book.specs.Begin.{begin}
@@ -6,166 +7,118 @@ use Rattle.sheet.proofs.Plays.{too-short, was-played}
 use borrow.Author.Needs.{needs}
 use Rattle.sheet.proofs.playing.play.Statement.{statement}
 use Rattle.sheet.proofs.playing.play.Tie as tie
-use Rattle.sheet.proofs.playing.play.Reads as reads
-use Rattle.sheet.proofs.playing.play.Lts as lts
-use Rattle.book.proofs.Book.abort.Reads as abort-reads
-use Rattle.book.proofs.Book.begin.Reads as begin-reads
-use Rattle.book.proofs.Book.complete.Reads as complete-reads
-use Rattle.book.proofs.Book.give_up.Reads as give-up-reads
-use Rattle.book.proofs.Book.hear.Reads as hear-reads
-use Rattle.book.proofs.Book.ready.Reads as ready-reads
-use Rattle.sheet.proofs.playing.begun.Reads as begun-reads
-use Rattle.sheet.proofs.playing.between.Reads as between-reads
-use Rattle.sheet.proofs.playing.done.Reads as done-reads
-use Rattle.sheet.proofs.playing.shown.Reads as shown-reads
 
--- src/playing.rt:116:9
 returns : tie.Need-returns
 returns c = too-short places (c .before .before .before .args .book) (c .before .before .before .args .sheet .now) (c .before .before .before .args .event) (c .before .before .before .args .position) (c .before .before .before .args .buf .now) (c .if1 .taken)
 
--- src/playing.rt:122:24
 enum-known-event : tie.Need-enum-known-event
 enum-known-event c = search needs
 
--- src/playing.rt:123:17
 between-requires : tie.Need-between-requires
 between-requires c κs = search needs
 
--- src/playing.rt:124:19
 begin-requires : tie.Need-begin-requires
 begin-requires c κs = search needs
 
--- src/playing.rt:124:13
 begun-requires : tie.Need-begun-requires
 begun-requires c κs = search needs
 
--- src/playing.rt:126:24
 enum-known-event-2 : tie.Need-enum-known-event-2
 enum-known-event-2 c = search needs
 
--- src/playing.rt:126:51
 ready-requires : tie.Need-ready-requires
 ready-requires c κs = search needs
 
--- src/playing.rt:126:46
 done-requires : tie.Need-done-requires
 done-requires c κs = search needs
 
--- src/playing.rt:127:25
 enum-known-event-3 : tie.Need-enum-known-event-3
 enum-known-event-3 c = search needs
 
--- src/playing.rt:127:52
 give-up-requires : tie.Need-give-up-requires
 give-up-requires c κs = search needs
 
--- src/playing.rt:127:47
 done-requires-2 : tie.Need-done-requires-2
 done-requires-2 c κs = search needs
 
--- src/playing.rt:128:27
 enum-known-event-4 : tie.Need-enum-known-event-4
 enum-known-event-4 c = search needs
 
--- src/playing.rt:128:44
 complete-requires : tie.Need-complete-requires
 complete-requires c κs = search needs
 
--- src/playing.rt:128:39
 done-requires-3 : tie.Need-done-requires-3
 done-requires-3 c κs = search needs
 
--- src/playing.rt:129:24
 enum-known-event-5 : tie.Need-enum-known-event-5
 enum-known-event-5 c = search needs
 
--- src/playing.rt:129:41
 abort-requires : tie.Need-abort-requires
 abort-requires c κs = search needs
 
--- src/playing.rt:129:36
 done-requires-4 : tie.Need-done-requires-4
 done-requires-4 c κs = search needs
 
--- src/playing.rt:130:23
 enum-known-event-6 : tie.Need-enum-known-event-6
 enum-known-event-6 c = search needs
 
--- src/playing.rt:130:50
 hear-requires : tie.Need-hear-requires
 hear-requires c κs = search needs
 
--- src/playing.rt:130:45
 done-requires-5 : tie.Need-done-requires-5
 done-requires-5 c κs = search needs
 
--- src/playing.rt:131:23
 enum-known-event-7 : tie.Need-enum-known-event-7
 enum-known-event-7 c = search needs
 
--- src/playing.rt:131:33
 shown-requires : tie.Need-shown-requires
 shown-requires c κs = search needs
 
--- src/playing.rt:111:1
 same-length : tie.Need-same-length
 same-length c = search needs
 
--- src/playing.rt:111:1
 returns-2 : tie.Need-returns-2
 unfolding outcome
 returns-2 c = was-played places (c .before .before .before .before .before .before .before .before .before .before .before .before .args .book) (c .before .before .before .before .before .before .before .before .before .before .before .before .args .sheet .now) (c .before .before .before .before .before .before .before .before .before .before .before .before .args .event) (c .before .before .before .before .before .before .before .before .before .before .before .before .args .position) (c .before .before .before .before .before .before .before .before .before .before .before .before .args .buf .now) (c .before .before .before .before .before .before .before .before .before .if1 .left) (c .before .before .begun .ensures) (ap ofBegun (c .before .before .before .before .begin .ensures ∙ ap (begin places (c .before .before .before .before .before .before .before .before .before .before .before .before .args .book)) (c .before .before .before .before .before .between .ensures)) ∙ sym (ap (outcome places (c .before .before .before .before .before .before .before .before .before .before .before .before .args .book) (c .before .before .before .before .before .before .before .before .before .before .before .before .args .sheet .now)) (c .before .before .before .before .before .before .before .event .given .1)))
 
--- src/playing.rt:111:1
 same-length-2 : tie.Need-same-length-2
 same-length-2 c = search needs
 
--- src/playing.rt:111:1
 returns-3 : tie.Need-returns-3
 unfolding outcome
 returns-3 c = was-played places (c .before .before .before .before .before .before .before .before .before .before .before .args .book) (c .before .before .before .before .before .before .before .before .before .before .before .args .sheet .now) (c .before .before .before .before .before .before .before .before .before .before .before .args .event) (c .before .before .before .before .before .before .before .before .before .before .before .args .position) (c .before .before .before .before .before .before .before .before .before .before .before .args .buf .now) (c .before .before .before .before .before .before .before .before .if1 .left) (c .before .before .done .ensures) (ap ofDone (c .before .before .before .before .ready .ensures) ∙ sym (ap (outcome places (c .before .before .before .before .before .before .before .before .before .before .before .args .book) (c .before .before .before .before .before .before .before .before .before .before .before .args .sheet .now)) (c .before .before .before .before .before .before .event2 .given .1)))
 
--- src/playing.rt:111:1
 same-length-3 : tie.Need-same-length-3
 same-length-3 c = search needs
 
--- src/playing.rt:111:1
 returns-4 : tie.Need-returns-4
 unfolding outcome
 returns-4 c = was-played places (c .before .before .before .before .before .before .before .before .before .before .before .args .book) (c .before .before .before .before .before .before .before .before .before .before .before .args .sheet .now) (c .before .before .before .before .before .before .before .before .before .before .before .args .event) (c .before .before .before .before .before .before .before .before .before .before .before .args .position) (c .before .before .before .before .before .before .before .before .before .before .before .args .buf .now) (c .before .before .before .before .before .before .before .before .if1 .left) (c .before .before .done2 .ensures) (ap ofDone (c .before .before .before .before .give-up .ensures) ∙ sym (ap (outcome places (c .before .before .before .before .before .before .before .before .before .before .before .args .book) (c .before .before .before .before .before .before .before .before .before .before .before .args .sheet .now)) (c .before .before .before .before .before .before .event3 .given .1)))
 
--- src/playing.rt:111:1
 same-length-4 : tie.Need-same-length-4
 same-length-4 c = search needs
 
--- src/playing.rt:111:1
 returns-5 : tie.Need-returns-5
 unfolding outcome
 returns-5 c = was-played places (c .before .before .before .before .before .before .before .before .before .before .before .args .book) (c .before .before .before .before .before .before .before .before .before .before .before .args .sheet .now) (c .before .before .before .before .before .before .before .before .before .before .before .args .event) (c .before .before .before .before .before .before .before .before .before .before .before .args .position) (c .before .before .before .before .before .before .before .before .before .before .before .args .buf .now) (c .before .before .before .before .before .before .before .before .if1 .left) (c .before .before .done3 .ensures) (ap ofDone (c .before .before .before .before .complete .ensures) ∙ sym (ap (outcome places (c .before .before .before .before .before .before .before .before .before .before .before .args .book) (c .before .before .before .before .before .before .before .before .before .before .before .args .sheet .now)) (c .before .before .before .before .before .before .event4 .given .1)))
 
--- src/playing.rt:111:1
 same-length-5 : tie.Need-same-length-5
 same-length-5 c = search needs
 
--- src/playing.rt:111:1
 returns-6 : tie.Need-returns-6
 unfolding outcome
 returns-6 c = was-played places (c .before .before .before .before .before .before .before .before .before .before .before .args .book) (c .before .before .before .before .before .before .before .before .before .before .before .args .sheet .now) (c .before .before .before .before .before .before .before .before .before .before .before .args .event) (c .before .before .before .before .before .before .before .before .before .before .before .args .position) (c .before .before .before .before .before .before .before .before .before .before .before .args .buf .now) (c .before .before .before .before .before .before .before .before .if1 .left) (c .before .before .done4 .ensures) (ap ofDone (c .before .before .before .before .abort .ensures) ∙ sym (ap (outcome places (c .before .before .before .before .before .before .before .before .before .before .before .args .book) (c .before .before .before .before .before .before .before .before .before .before .before .args .sheet .now)) (c .before .before .before .before .before .before .event5 .given .1)))
 
--- src/playing.rt:111:1
 same-length-6 : tie.Need-same-length-6
 same-length-6 c = search needs
 
--- src/playing.rt:111:1
 returns-7 : tie.Need-returns-7
 unfolding outcome
 returns-7 c = was-played places (c .before .before .before .before .before .before .before .before .before .before .before .args .book) (c .before .before .before .before .before .before .before .before .before .before .before .args .sheet .now) (c .before .before .before .before .before .before .before .before .before .before .before .args .event) (c .before .before .before .before .before .before .before .before .before .before .before .args .position) (c .before .before .before .before .before .before .before .before .before .before .before .args .buf .now) (c .before .before .before .before .before .before .before .before .if1 .left) (c .before .before .done5 .ensures) (ap ofDone (c .before .before .before .before .hear .ensures) ∙ sym (ap (outcome places (c .before .before .before .before .before .before .before .before .before .before .before .args .book) (c .before .before .before .before .before .before .before .before .before .before .before .args .sheet .now)) (c .before .before .before .before .before .before .event6 .given .1)))
 
--- src/playing.rt:111:1
 same-length-7 : tie.Need-same-length-7
 same-length-7 c = search needs
 
--- src/playing.rt:111:1
 returns-8 : tie.Need-returns-8
 unfolding outcome
 returns-8 c = was-played places (c .before .before .before .before .before .before .before .before .before .before .args .book) (c .before .before .before .before .before .before .before .before .before .before .args .sheet .now) (c .before .before .before .before .before .before .before .before .before .before .args .event) (c .before .before .before .before .before .before .before .before .before .before .args .position) (c .before .before .before .before .before .before .before .before .before .before .args .buf .now) (c .before .before .before .before .before .before .before .if1 .left) (c .before .before .shown .ensures) (sym (ap (outcome places (c .before .before .before .before .before .before .before .before .before .before .args .book) (c .before .before .before .before .before .before .before .before .before .before .args .sheet .now)) (c .before .before .before .before .before .event7 .given .1)))

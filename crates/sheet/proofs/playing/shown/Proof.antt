@@ -1,6 +1,6 @@
+-- The line that show wrote stands between its head and the line feed; the line of a refused show covers the head that was put.
 use native.Mathlib.Omega.{arith}
 use Rattle.conditions.proofs.Putting.{put-then}
-use mathlib.Core.Path.{sym, ap}
 use Rattle.conditions.proofs.Putting.{put-length}
 use Rattle.conditions.specs.Places.{places}
 use Rattle.sheet.proofs.Writing.{put-over, head-shorter, show-fits}
@@ -9,55 +9,37 @@ use Rattle.sheet.proofs.Plays.{number-refused, number-accepted, show-ac
 use borrow.Author.Needs.{needs}
 use Rattle.sheet.proofs.playing.shown.Statement.{statement}
 use Rattle.sheet.proofs.playing.shown.Tie as tie
-use Rattle.sheet.proofs.playing.shown.Reads as reads
-use Rattle.sheet.proofs.playing.shown.Lts as lts
-use Rattle.book.proofs.Answer.number.Reads as number-reads
-use Rattle.book.proofs.Book.show.Reads as show-reads
-use Rattle.sheet.proofs.lines.put_byte.Reads as put-byte-reads
-use Rattle.sheet.proofs.lines.put_head.Reads as put-head-reads
-use Rattle.sheet.proofs.lines.put_plain.Reads as put-plain-reads
 
--- src/playing.rt:91:9
 put-head-requires : tie.Need-put-head-requires
 put-head-requires c κs = search needs
 
--- src/playing.rt:92:9
 put-byte-requires : tie.Need-put-byte-requires
 put-byte-requires c κs = search needs
 
--- src/playing.rt:93:14
 add-to : tie.Need-add-to
 add-to c = search needs
 
--- src/playing.rt:94:29
 sub-show : tie.Need-sub-show
 sub-show c = search needs
 
--- src/playing.rt:94:29
 part-show-start : tie.Need-part-show-start
 part-show-start c = search needs
 
--- src/playing.rt:94:29
 part-show-end : tie.Need-part-show-end
 part-show-end c = omega (arith, show-fits (c .before .before .before .before .before .before .before .before .before .args .position) (omega arith) (c .before .before .before .before .before .before .before .before .before .pre) (c .before .before .before .before .before .before .put-head .ensures .0) (c .before .before .put-byte .ensures))
 
--- src/playing.rt:94:9
 show-requires : tie.Need-show-requires
 show-requires c κs = search needs
 
--- src/playing.rt:96:8
 number-requires : tie.Need-number-requires
 number-requires c κs = search needs
 
--- src/playing.rt:97:13
 put-plain-requires : tie.Need-put-plain-requires
 put-plain-requires c κs = search needs
 
--- src/playing.rt:98:9
 same-length : tie.Need-same-length
 same-length c = search needs
 
--- src/playing.rt:98:9
 returns : tie.Need-returns
 returns c =
     let start = c .before .before .before .before .before .before .before .before .before .before .before .before .before .before .before .before .before .before .before in
@@ -73,7 +55,6 @@ returns c =
     (put-over (put-then head space) plain (head-shorter (start .args .position) (shown .result .answer)) (omega (arith, plain .ends, c .before .before .put-plain .ensures .1, start .pre)))
     (omega (arith, c .before .before .put-plain .ensures .1, start .pre))
 
--- src/playing.rt:103:29
 add-put-byte : tie.Need-add-put-byte
 add-put-byte c =
     let start = c .before .before .before .before .before .before .before .before .before .before .before .before .before .before .before .before .before in
@@ -85,7 +66,6 @@ add-put-byte c =
     let few = end-few places (start .args .book) (start .args .item) (c .before .before .before .before .before .before .before .before .before .before .put-byte .last .0) (c .before .before .before .before .before .before .before .before .before .before .put-byte .result) (omega (arith, fits)) (shown .ensures .0) (shown .ensures .1) accepted in
     record { fits = omega (arith, few, c .before .before .before .before .before .before .before .before .before .before .put-byte .ensures .ends, c .before .before .before .before .before .before .before .before .before .before .before .before .before .before .put-head .ensures .1) }
 
--- src/playing.rt:103:9
 put-byte-requires-2 : tie.Need-put-byte-requires-2
 put-byte-requires-2 c κs =
     let start = c .before .before .before .before .before .before .before .before .before .before .before .before .before .before .before .before .before in
@@ -98,11 +78,9 @@ put-byte-requires-2 c κs =
     let held = lent-put places (start .args .book) (start .args .item) (c .before .before .before .before .before .before .before .before .before .before .put-byte .last .0) (c .before .before .before .before .before .before .before .before .before .before .put-byte .result) (omega (arith, fits)) (shown .ensures .0) (shown .ensures .1) accepted in
     omega (arith, few, fits, put-length held)
 
--- src/playing.rt:87:1
 same-length-2 : tie.Need-same-length-2
 same-length-2 c = search needs
 
--- src/playing.rt:87:1
 returns-2 : tie.Need-returns-2
 returns-2 c =
     let start = c .before .before .before .before .before .before .before .before .before .before .before .before .before .before .before .before .before .before .before .before in

@@ -1,3 +1,4 @@
+-- Two bytes that are there, or the end of the sheet.
 use Prim.Native.Nat.{_+_}
 use native.Mathlib.Omega.{arith}
 use mathlib.Core.Path.{refl}
@@ -6,55 +7,40 @@ use Rattle.sheet.proofs.Reading.{word-short, word-good}
 use borrow.Author.Needs.{needs}
 use Rattle.sheet.proofs.readers.word.Statement.{statement}
 use Rattle.sheet.proofs.readers.word.Tie as tie
-use Rattle.sheet.proofs.readers.word.Reads as reads
-use Rattle.sheet.proofs.readers.word.Lts as lts
-use Rattle.sheet.proofs.readers.left.Reads as left-reads
 
--- src/readers.rt:86:9
 left-requires : tie.Need-left-requires
 left-requires c κs = search needs
 
--- src/readers.rt:90:20
 add-t7 : tie.Need-add-t7
 add-t7 c = search needs
 
--- src/readers.rt:88:9
 returns : tie.Need-returns
 returns c = (record { is = word-short any _ _ (c .before .left .ensures) (c .if1 .taken) }, omega arith)
 
--- src/readers.rt:94:16
 shared-slice-read-high : tie.Need-shared-slice-read-high
 shared-slice-read-high c = search needs
 
--- src/readers.rt:94:16
 cast-high : tie.Need-cast-high
 cast-high c = omega (arith, c .shared-slice-known2 .given (c .before .before .before .before .args .at))
 
--- src/readers.rt:95:21
 add-low : tie.Need-add-low
 add-low c = search needs
 
--- src/readers.rt:95:15
 shared-slice-read-low : tie.Need-shared-slice-read-low
 shared-slice-read-low c = search needs
 
--- src/readers.rt:95:15
 cast-low : tie.Need-cast-low
 cast-low c = omega (arith, c .shared-slice-known3 .given (c .before .before .before .before .before .args .at + 1))
 
--- src/readers.rt:98:16
 add-t10 : tie.Need-add-t10
 add-t10 c = search needs
 
--- src/readers.rt:99:17
 mul-t12 : tie.Need-mul-t12
 mul-t12 c = record { fits = omega (arith, c .shared-slice-known3 .given (c .before .before .before .before .before .args .at)) }
 
--- src/readers.rt:99:17
 add-t13 : tie.Need-add-t13
 add-t13 c = record { fits = omega (arith, c .shared-slice-known3 .given (c .before .before .before .before .before .args .at), c .shared-slice-known3 .given (c .before .before .before .before .before .args .at + 1)) }
 
--- src/readers.rt:82:1
 returns-2 : tie.Need-returns-2
 returns-2 c = (record { is = word-good any _ _ (omega (arith, c .before .before .before .left .ensures, c .before .before .if1 .left)) refl }, omega (arith, c .shared-slice-known3 .given (c .before .before .before .before .before .args .at), c .shared-slice-known3 .given (c .before .before .before .before .before .args .at + 1)))
 

@@ -1,3 +1,4 @@
+-- The loop's invariant: what is left to read, with the last code, tells all.
 use borrow.Author.Tests.{lt-ltb, le-ltb}
 use mathlib.Core.Path.{_≡_}
 use Prim.Native.Nat.{_≤_, _-_}
@@ -10,9 +11,6 @@ use Rattle.sheet.proofs.Reading.{went-wrong, went-right, still-wrong, n
 use Rattle.sheet.proofs.Repeating.{repeat-all, repeat-done, repeat-wrong, repeat-more}
 use Rattle.sheet.proofs.sections.codes.Statement.{statement}
 use Rattle.sheet.proofs.sections.codes.Tie as tie
-use Rattle.sheet.proofs.sections.codes.Reads as reads
-use Rattle.sheet.proofs.sections.codes.Lts as lts
-use Rattle.sheet.proofs.readers.byte.Reads as byte-reads
 
 abbrev Inv-loop : tie.InvT-loop
 Inv-loop sheet start n last₀ at₀ i₀ last at i = (i ≤ n) × (repeat n code 0 start (drop start sheet) ≡ repeat (n - i) code last at (drop at sheet))
@@ -20,38 +18,30 @@ Inv-loop sheet start n last₀ at₀ i₀ last at i = (i ≤ n) × (repeat n cod
 abbrev μ-loop : tie.MeasureT-loop
 μ-loop sheet start n last₀ at₀ i₀ last at i = n - i
 
--- src/sections.rt:54:5
 loop-holds : tie.Need-loop-holds Inv-loop μ-loop
 loop-holds c = (omega arith, repeat-all code _ 0 _ _)
 
--- src/sections.rt:55:13
 byte-requires : tie.Need-byte-requires Inv-loop μ-loop
 byte-requires c κs = search needs
 
--- src/sections.rt:57:13
 returns : tie.Need-returns Inv-loop μ-loop
 unfolding code
 returns c = still-wrong (c .if1 .taken) (repeat-wrong code _ (c .before .before .before .before .loop .inv .1) (omega arith) (no-byte _ _ _ (went-wrong (c .before .before .byte .ensures .0) (c .if1 .taken))))
 
--- src/sections.rt:60:13
 returns-2 : tie.Need-returns-2 Inv-loop μ-loop
 unfolding code
 returns-2 c = record { is = repeat-wrong code _ (c .before .before .before .before .before .before .loop .inv .1) (omega arith) (bad-byte _ _ _ (went-right (c .before .before .before .before .byte .ensures .0) (c .before .before .if1 .left)) (le-ltb _ _ (c .if2 .taken))) }
 
--- src/sections.rt:68:9
 add-i : tie.Need-add-i Inv-loop μ-loop
 add-i c = search needs
 
--- src/sections.rt:54:5
 loop-less : tie.Need-loop-less Inv-loop μ-loop
 loop-less c = omega arith
 
--- src/sections.rt:54:5
 loop-again : tie.Need-loop-again Inv-loop μ-loop
 unfolding code
 loop-again c = (omega arith, repeat-more code _ (c .before .before .before .before .before .before .loop .inv .1) (omega arith) (good-byte _ _ _ (went-right (c .before .before .before .before .byte .ensures .0) (c .before .before .if1 .left)) (lt-ltb _ _ (c .if2 .left))))
 
--- src/sections.rt:48:1
 returns-3 : tie.Need-returns-3 Inv-loop μ-loop
 returns-3 c = record { is = repeat-done code _ (c .before .loop .inv .1) (omega arith) }
 

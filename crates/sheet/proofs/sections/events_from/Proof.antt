@@ -1,3 +1,4 @@
+-- The loop's invariant: what is left to read, after the events so far, tells all.
 use mathlib.Core.Path.{ap, _∙_}
 use Rattle.sheet.specs.Told.{toldEvent}
 use mathlib.Core.Path.{_≡_}
@@ -12,9 +13,6 @@ use Rattle.sheet.specs.Events.{oneMore}
 use Rattle.sheet.proofs.Repeating.{event-more, no-event, repeat-all, repeat-done, repeat-wrong, repeat-more}
 use Rattle.sheet.proofs.sections.events_from.Statement.{statement}
 use Rattle.sheet.proofs.sections.events_from.Tie as tie
-use Rattle.sheet.proofs.sections.events_from.Reads as reads
-use Rattle.sheet.proofs.sections.events_from.Lts as lts
-use Rattle.sheet.proofs.events.event_at.Reads as event-at-reads
 
 abbrev Inv-loop : tie.InvT-loop
 Inv-loop sheet start n at₀ i₀ at i = (i ≤ n) × ((es : List Event) × (repeat n oneMore [] start (drop start sheet) ≡ repeat (n - i) oneMore es at (drop at sheet)))
@@ -22,39 +20,30 @@ Inv-loop sheet start n at₀ i₀ at i = (i ≤ n) × ((es : List Event) × (rep
 abbrev μ-loop : tie.MeasureT-loop
 μ-loop sheet start n at₀ i₀ at i = n - i
 
--- src/sections.rt:202:5
 loop-holds : tie.Need-loop-holds Inv-loop μ-loop
 loop-holds c = (omega arith, ([], repeat-all oneMore _ [] _ _))
 
--- src/sections.rt:203:15
 event-at-requires : tie.Need-event-at-requires Inv-loop μ-loop
 event-at-requires c κs = search needs
 
--- src/sections.rt:204:39
 enum-known-next : tie.Need-enum-known-next Inv-loop μ-loop
 enum-known-next c = search needs
 
--- src/sections.rt:207:28
 enum-known-place : tie.Need-enum-known-place Inv-loop μ-loop
 enum-known-place c = search needs
 
--- src/sections.rt:208:17
 returns : tie.Need-returns Inv-loop μ-loop
 returns c = ([], record { is = repeat-wrong oneMore _ (c .before .before .before .before .before .loop .inv .1 .1) (omega arith) (no-event _ _ _ (c .before .before .before .event-at .ensures .1 ∙ ap (toldEvent _) (c .before .place .given .1))) })
 
--- src/sections.rt:215:9
 add-i : tie.Need-add-i Inv-loop μ-loop
 add-i c = search needs
 
--- src/sections.rt:202:5
 loop-less : tie.Need-loop-less Inv-loop μ-loop
 loop-less c = omega arith
 
--- src/sections.rt:202:5
 loop-again : tie.Need-loop-again Inv-loop μ-loop
 loop-again c = (omega arith, (_, repeat-more oneMore _ (c .before .before .before .before .before .loop .inv .1 .1) (omega arith) (event-more _ _ _ (c .before .before .before .event-at .ensures .1 ∙ ap (toldEvent _) (c .before .next .given .1)))))
 
--- src/sections.rt:197:1
 returns-2 : tie.Need-returns-2 Inv-loop μ-loop
 returns-2 c = (_, record { is = repeat-done oneMore _ (c .before .loop .inv .1 .1) (omega arith) })
 

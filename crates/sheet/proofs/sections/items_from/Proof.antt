@@ -1,22 +1,18 @@
-use lib.Seq.{length-take-le}
+-- The loop's invariant: the items so far stand in the first rows, and what is left to read tells all.
 use mathlib.Core.Path.{refl, sym, ap, _∙_}
 use Rattle.sheet.proofs.Reading.{went-wrong, went-right}
 use mathlib.Core.Path.{_≡_}
-use mathlib.Core.List.{List, [], _++_}
+use mathlib.Core.List.{List, []}
 use Prim.Native.Nat.{_≤_, _-_}
 use native.Mathlib.Omega.{arith}
-use lib.ListN.{length, drop, replicate}
+use lib.ListN.{length, drop}
 use borrow.Author.Needs.{needs}
 use Rattle.book.specs.declared.Opening.{Opening}
-use Rattle.book.specs.Book.{mostItems}
 use Rattle.sheet.specs.Readers.{right, repeat}
 use Rattle.sheet.specs.Sections.{itemMore}
 use Rattle.sheet.proofs.Repeating.{inRows, row-more, rows-read, item-more, no-item, repeat-all, repeat-done, repeat-wrong, repeat-more}
 use Rattle.sheet.proofs.sections.items_from.Statement.{statement}
 use Rattle.sheet.proofs.sections.items_from.Tie as tie
-use Rattle.sheet.proofs.sections.items_from.Reads as reads
-use Rattle.sheet.proofs.sections.items_from.Lts as lts
-use Rattle.sheet.proofs.sections.item_at.Reads as item-at-reads
 
 abbrev Inv-loop : tie.InvT-loop
 Inv-loop sheet start districts n rows₀ at₀ i₀ rows at i = (i ≤ n) × ((xs : List Opening) × (length xs ≡ i) × (rows ≡ inRows xs) × (repeat n (itemMore districts) [] start (drop start sheet) ≡ repeat (n - i) (itemMore districts) xs at (drop at sheet)))
@@ -24,42 +20,33 @@ Inv-loop sheet start districts n rows₀ at₀ i₀ rows at i = (i ≤ n) × ((x
 abbrev μ-loop : tie.MeasureT-loop
 μ-loop sheet start districts n rows₀ at₀ i₀ rows at i = n - i
 
--- src/sections.rt:146:5
 loop-holds : tie.Need-loop-holds Inv-loop μ-loop
 loop-holds c = (omega arith, ([], refl, refl, repeat-all (itemMore _) _ [] _ _))
 
--- src/sections.rt:147:13
 item-at-requires : tie.Need-item-at-requires Inv-loop μ-loop
 item-at-requires c κs = search needs
 
--- src/sections.rt:149:13
 returns : tie.Need-returns Inv-loop μ-loop
 returns c = (record { is = repeat-wrong (itemMore _) _ (c .before .before .before .before .loop .inv .1 .3) (omega arith) (no-item _ _ _ _ (went-wrong (c .before .before .item-at .ensures) (c .if1 .taken))) }, omega arith)
 
--- src/sections.rt:159:9
 mul-rows : tie.Need-mul-rows Inv-loop μ-loop
 mul-rows c = record { fits = omega (arith, c .before .before .before .before .before .before .before .pre) }
 
--- src/sections.rt:159:9
 array-set-from-rows : tie.Need-array-set-from-rows Inv-loop μ-loop
 array-set-from-rows c = omega (arith, c .before .before .before .before .before .before .before .pre)
 
--- src/sections.rt:161:9
 add-i : tie.Need-add-i Inv-loop μ-loop
 add-i c = search needs
 
--- src/sections.rt:146:5
 loop-less : tie.Need-loop-less Inv-loop μ-loop
 loop-less c = omega arith
 
--- src/sections.rt:146:5
 loop-again : tie.Need-loop-again Inv-loop μ-loop
 loop-again c =
     let at-loop = c .before .before .before .before .before .loop in
     let more = row-more (at-loop .inv .1 .0) (c .before .before .before .item-at .result .item) (at-loop .inv .1 .1) (omega (arith, c .before .before .before .before .before .before .before .pre)) (at-loop .inv .1 .2) in
     (omega arith, (_, more .0, more .1, repeat-more (itemMore _) _ (at-loop .inv .1 .3) (omega arith) (item-more _ _ _ _ (went-right (c .before .before .before .item-at .ensures) (c .before .if1 .left)))))
 
--- src/sections.rt:134:1
 returns-2 : tie.Need-returns-2 Inv-loop μ-loop
 returns-2 c =
     let at-loop = c .before .loop in
