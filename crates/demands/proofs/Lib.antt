@@ -10,6 +10,7 @@ mod Beginning
 mod Invariant
 mod Opening
 pub mod Demand3
+mod Sheets
 pub mod Demand1
 pub mod Demand2
 pub mod Examples

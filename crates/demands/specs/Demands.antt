@@ -34,6 +34,9 @@ use Rattle.book.specs.Show.{heldLine, showAnswer, shown}
 use Rattle.book.specs.Examples.{Example1, Example2, Example3, Example4, Example5, Example6, Example7, Example8, Example9}
 use Rattle.book.proofs.Laws.Shaped.{Shaped}
 use Rattle.book.proofs.Laws.Calls.{Whole}
+use Rattle.sheet.specs.Readers.{right}
+use Rattle.sheet.specs.Sections.{Sheet, sheet}
+use Rattle.sheet.specs.Open.{openSheet}
 use Rattle.demands.specs.Calls.{Call, begins, readies, givesUp, completes, aborts, hears, shows, answerTo, numberGiven, bookAfter, History, bookOf}
 use Rattle.demands.specs.Past.{Said, pastOf, asksBegin, asksComplete, asksAbort, begun, Guess, serial}
 
@@ -216,6 +219,13 @@ Demand3 w =
     (districts : ℕ) (xs : List Opening) → goodOpening districts xs ≡ true
     → (h : History) → Serially w xs (bookOf w (opened w districts xs) h) (pastOf w (opened w districts xs) h)
 
+-- "Only a good sheet opens a book" (document 01, Events): a sheet that is accepted was read, what it says opens its book, and so all of that holds after any calls on it
+abbrev pub OnSheets : ℕ → Type 0
+OnSheets w =
+    (s : List ℕ) → accepted (openSheet w s .answer) ≡ true
+    → (x : Sheet) × (at : ℕ) × (rest : List ℕ) × (sheet s ≡ right x at rest)
+    × ((h : History) → Serially w (x .items) (bookOf w (openSheet w s .book) h) (pastOf w (openSheet w s .book) h))
+
 -- ==== "Marked examples (prove these ten)"
 
 abbrev pub MarkedExamples : Type 0
@@ -228,4 +238,5 @@ pub record Demands : Type 1 where
   pub oneResult : OneResult
   pub two : (w : ℕ) → Demand2 w
   pub three : (w : ℕ) → Demand3 w
+  pub onSheets : (w : ℕ) → OnSheets w
   pub examples : MarkedExamples

@@ -102,14 +102,19 @@ good-sheet s {x} e =
     ap (λ (y : Sheet). goodOpening (y .districts) (y .items)) (sym same) ∙ all
 
 module _ (w : ℕ) (s : List ℕ) where
-  -- a good sheet
-  pub good-opens : accepted (openSheet w s .answer) ≡ true → Whole w (openSheet w s .book)
+  -- a good sheet was read, and what it says opens its book
+  pub sheet-opens : accepted (openSheet w s .answer) ≡ true
+      → (x : Sheet) × (at : ℕ) × (rest : List ℕ) × (sheet s ≡ right x at rest) × (goodOpening (x .districts) (x .items) ≡ true) × (openSheet w s .book ≡ opened w (x .districts) (x .items))
   unfolding openSheet openedSheet refused
-  good-opens e = by-cases (ltb mostBytes (length s)) (λ t. absurd (false≢true (rw t at e))) (λ t. rw t (go (sheet s) refl (rw t at e)))
+  sheet-opens e = by-cases (ltb mostBytes (length s)) (λ t. absurd (false≢true (rw t at e))) (λ t. rw t (go (sheet s) refl (rw t at e)))
     where
-      go : (r : Read Sheet) → sheet s ≡ r → accepted (openedSheet w r .answer) ≡ true → Whole w (openedSheet w r .book)
+      go : (r : Read Sheet) → sheet s ≡ r → accepted (openedSheet w r .answer) ≡ true
+          → (x : Sheet) × (at : ℕ) × (rest : List ℕ) × (sheet s ≡ right x at rest) × (goodOpening (x .districts) (x .items) ≡ true) × (openedSheet w r .book ≡ opened w (x .districts) (x .items))
       go (wrong place) q a = absurd (false≢true a)
-      go (right x at rest) q a = opened-whole w (x .districts) (x .items) (good-sheet s q)
+      go (right x at rest) q a = (x, at, rest, q, good-sheet s q, refl)
+
+  pub good-opens : accepted (openSheet w s .answer) ≡ true → Whole w (openSheet w s .book)
+  good-opens e = let o = sheet-opens e in rw (o .5) (opened-whole w (o .0 .districts) (o .0 .items) (o .4))
 
   -- a refused one
   pub refused-zero : accepted (openSheet w s .answer) ≡ false → openSheet w s .book ≡ noBook w
