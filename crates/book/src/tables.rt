@@ -1,12 +1,14 @@
 // What one reads off the tables of a book.
 ghost use mathlib.Core.Path.{_≡_};
-ghost use mathlib.Core.Bool.{not};
-ghost use Prim.Native.Nat.{suc, _<_, _≤_};
+ghost use mathlib.Core.Bool.{true, false, not};
+ghost use Prim.Native.Nat.{ℕ, suc, _<_, _≤_};
 ghost use lib.Dec.{eqb};
 ghost use lib.ListN.{getD};
 ghost use Rattle.conditions.specs.Below.{any, first};
 ghost use Rattle.conditions.specs.Places.{places as Places·places};
 ghost use Rattle.conditions.specs.Sets.{setOf};
+ghost use Rattle.polyvalues.specs.Pairs.{depends};
+ghost use Rattle.polyvalues.specs.Polyvalues.{inUse};
 ghost use Rattle.book.specs.Book.{
   mostDistricts,
   noRecord,
@@ -20,9 +22,11 @@ use crate::Item;
 use crate::Open;
 use crate::Record;
 use crate::sets::including;
+use conditions::Condition;
 use conditions::PLACES;
 use conditions::Place;
 use conditions::TransactionNumber;
+use polyvalues::Polyvalue;
 
 // How many districts and items a book has room for.
 pub const DISTRICTS: usize = 8;
@@ -127,6 +131,29 @@ pub(crate) fn item_depends(x: Item, q: Place) -> bool
     x.pending.depends(q)
 }
 
+// Whether it is one pair that always applies: such a polyvalue depends on no place.
+fn is_certain(p: Polyvalue) -> bool
+    ensures { λ r. ⌜ (r ≡ true → (q : ℕ) → depends Places·places (inUse p) q ≡ false) ⌝ }
+{
+    if p.count != 1 {
+        return false;
+    }
+    let row = p.pairs[0];
+    row.condition.same(Condition::FULL)
+}
+
+// Whether both of the item's are.
+fn is_sure(x: Item) -> bool
+    ensures { λ r. ⌜ (r ≡ true → (q : ℕ) → itemDepends Places·places x q ≡ false) ⌝ }
+{
+    let held = x.held;
+    if !is_certain(held) {
+        return false;
+    }
+    let pending = x.pending;
+    is_certain(pending)
+}
+
 // The set and the place, if the item depends on it.
 fn with_place(set: u8, x: Item, q: usize) -> u8
     requires { ⌜ (q < Places·places) × (set ≡ setOf q (itemDepends Places·places x)) ⌝ }
@@ -142,6 +169,9 @@ fn with_place(set: u8, x: Item, q: usize) -> u8
 pub(crate) fn places_of(x: Item) -> u8
     ensures { λ r. ⌜ r ≡ setOf Places·places (itemDepends Places·places x) ⌝ }
 {
+    if is_sure(x) {
+        return 0;
+    }
     let mut set: u8 = 0;
     let mut q: usize = 0;
     while q < PLACES {

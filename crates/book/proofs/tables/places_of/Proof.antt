@@ -1,4 +1,4 @@
--- The loop's invariant: the set of such places before q.
+-- A sure item depends on none. The loop's invariant: the set of such places before q.
 use mathlib.Core.Path.{_≡_, refl}
 use Prim.Native.Nat.{_≤_, _-_}
 use native.Mathlib.Numerals.{add-one}
@@ -7,6 +7,7 @@ use borrow.Author.Needs.{needs}
 use Rattle.conditions.specs.Sets.{setOf}
 use Rattle.conditions.specs.Places.{places as width}
 use Rattle.book.specs.Book.{itemDepends}
+use Rattle.book.proofs.Needed.{none-in-set}
 use Rattle.book.proofs.tables.places_of.Statement.{statement}
 use Rattle.book.proofs.tables.places_of.Tie as tie
 
@@ -15,6 +16,12 @@ Inv-loop x set₀ q₀ set q = (q ≤ width) × (set ≡ setOf q (itemDepends wi
 
 abbrev μ-loop : tie.MeasureT-loop
 μ-loop x set₀ q₀ set q = width - q
+
+is-sure-requires : tie.Need-is-sure-requires Inv-loop μ-loop
+is-sure-requires c κs = search needs
+
+returns : tie.Need-returns Inv-loop μ-loop
+returns c = none-in-set width (itemDepends width (c .before .before .args .x)) (c .before .is-sure .ensures (c .if1 .taken))
 
 loop-holds : tie.Need-loop-holds Inv-loop μ-loop
 unfolding setOf
@@ -32,8 +39,8 @@ loop-less c = omega arith
 loop-again : tie.Need-loop-again Inv-loop μ-loop
 loop-again c = (omega arith, rw add-one (c .with-place .ensures))
 
-returns : tie.Need-returns Inv-loop μ-loop
-returns c = let last : c .before .loop .q ≡ width = omega (arith, c .before .loop .inv .0) in rw last at (c .before .loop .inv .1)
+returns-2 : tie.Need-returns-2 Inv-loop μ-loop
+returns-2 c = let last : c .before .loop .q ≡ width = omega (arith, c .before .loop .inv .0) in rw last at (c .before .loop .inv .1)
 
 pub places-of-spec : {M : Type 1} → statement M
 places-of-spec =
@@ -41,9 +48,11 @@ places-of-spec =
     (tie.spec
     Inv-loop
     μ-loop
+    is-sure-requires
+    returns
     loop-holds
     with-place-requires
     add-q
     loop-less
     loop-again
-    returns)
+    returns-2)
