@@ -69,7 +69,7 @@ fn begun_items(b: Book, p: Program, w: Worked) -> [Item; ITEMS]
 }
 
 // The next number is given to the program, at the place.
-pub(crate) fn begun(b: Book, p: Program, w: Worked, q: usize) -> Book
+pub(crate) fn begun(mut b: Book, p: Program, w: Worked, q: usize) -> Book
     requires { ⌜ (b .districts ≤ mostDistricts) × (b .count ≤ mostItems) × (b .last .0 < lastNumber) ⌝ }
     requires { ⌜ (q ≡ freePlace places b) × (q < places) ⌝ }
     requires { ⌜ WorkedOut places b (stepsOf p) w ⌝ }
@@ -88,12 +88,11 @@ pub(crate) fn begun(b: Book, p: Program, w: Worked, q: usize) -> Book
         gave: 0,
         decision: 0,
     };
-    let mut after = b;
-    after.last = number;
-    after.records = records;
-    after.items = items;
-    after.open[q] = new;
-    after
+    b.last = number;
+    b.records = records;
+    b.items = items;
+    b.open[q] = new;
+    b
 }
 
 // Refused: no number, no grant, the book as it came.

@@ -43,15 +43,14 @@ fn some_awaited(o: Open, districts: usize) -> bool
 }
 
 // The transaction at the place has the decision.
-fn decided(b: Book, q: usize, decision: u8) -> Book
+fn decided(mut b: Book, q: usize, decision: u8) -> Book
     requires { ⌜ q < places ⌝ }
     ensures { λ r. ⌜ ((n : ℕ) → q ≡ placeOf places b n → r ≡ decide places b n decision) ⌝ }
 {
     let mut o = b.open[q];
     o.decision = decision;
-    let mut after = b;
-    after.open[q] = o;
-    after
+    b.open[q] = o;
+    b
 }
 
 impl Book {

@@ -57,7 +57,7 @@ fn remembered_places(t: Tables) -> [Open; PLACES]
 }
 
 // The book with each such place freed.
-pub(crate) fn forget(b: Book) -> Book
+pub(crate) fn forget(mut b: Book) -> Book
     requires { ⌜ (b .districts ≤ mostDistricts) × (b .count ≤ mostItems) ⌝ }
     ensures { λ r. ⌜ r ≡ forget Places·places b ⌝ }
 {
@@ -80,7 +80,6 @@ pub(crate) fn forget(b: Book) -> Book
         open,
         needed,
     });
-    let mut after = b;
-    after.open = places;
-    after
+    b.open = places;
+    b
 }

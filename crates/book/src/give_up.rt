@@ -55,7 +55,7 @@ fn marked(o: Open, d: usize) -> Open
 }
 
 // The district is idle, its items are given up, and from computing the transaction is marked.
-fn gave_up(b: Book, n: TransactionNumber, d: u8, q: usize, computing: bool) -> Book
+fn gave_up(mut b: Book, n: TransactionNumber, d: u8, q: usize, computing: bool) -> Book
     requires { ⌜ (sound places b ≡ true) × (d < mostDistricts) × (q < places) ⌝ }
     requires { ⌜ (q ≡ placeOf places b (n .0)) × (computing ≡ computingOn (n .0) (recordAt b d)) ⌝ }
     ensures { λ r. ⌜ r ≡ gaveUp places b (n .0) d ⌝ }
@@ -64,16 +64,15 @@ fn gave_up(b: Book, n: TransactionNumber, d: u8, q: usize, computing: bool) -> B
     let i = d as usize;
     let r = b.records[i];
     let idle = rested(r);
-    let mut after = b;
-    after.records[i] = idle;
-    after.items = items;
+    b.records[i] = idle;
+    b.items = items;
     if !computing {
-        return after;
+        return b;
     }
     let o = b.open[q];
     let known = marked(o, i);
-    after.open[q] = known;
-    after
+    b.open[q] = known;
+    b
 }
 
 impl Book {

@@ -38,7 +38,7 @@ fn heard_items(b: Book, n: TransactionNumber, d: u8, q: Place, completed: bool) 
 }
 
 // The district and its items have heard.
-fn heard(b: Book, n: TransactionNumber, d: u8, q: Place, completed: bool) -> Book
+fn heard(mut b: Book, n: TransactionNumber, d: u8, q: Place, completed: bool) -> Book
     requires { ⌜ (b .count ≤ mostItems) × (d < mostDistricts) ⌝ }
     requires { ⌜ (q .0 ≡ placeOf places b (n .0)) × (completed ≡ outcome (openOf places b (n .0))) ⌝ }
     ensures { λ r. ⌜ r ≡ heard places b (n .0) d ⌝ }
@@ -47,10 +47,9 @@ fn heard(b: Book, n: TransactionNumber, d: u8, q: Place, completed: bool) -> Boo
     let i = d as usize;
     let r = b.records[i];
     let s = heard_record(r, n);
-    let mut after = b;
-    after.records[i] = s;
-    after.items = items;
-    after
+    b.records[i] = s;
+    b.items = items;
+    b
 }
 
 impl Book {

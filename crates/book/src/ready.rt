@@ -28,18 +28,17 @@ fn reported(o: Open, d: usize) -> Open
 }
 
 // The district waits on the transaction at the place, and is in its ready set.
-fn readied(b: Book, q: usize, d: usize) -> Book
+fn readied(mut b: Book, q: usize, d: usize) -> Book
     requires { ⌜ (q < places) × (d < mostDistricts) ⌝ }
     ensures { λ r. ⌜ ((n : ℕ) → q ≡ placeOf places b n → r ≡ readied places b n d) ⌝ }
 {
-    let mut after = b;
     let r = b.records[d];
     let waiting = readied_record(r);
-    after.records[d] = waiting;
+    b.records[d] = waiting;
     let o = b.open[q];
     let known = reported(o, d);
-    after.open[q] = known;
-    after
+    b.open[q] = known;
+    b
 }
 
 impl Book {

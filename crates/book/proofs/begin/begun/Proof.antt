@@ -25,7 +25,7 @@ element-set-from-new : tie.Need-element-set-from-new
 element-set-from-new c = omega (arith, c .before .before .before .pre .1 .0 .1)
 
 returns : tie.Need-returns
-returns c = begun-is places (c .before .before .before .args .b) (stepsOf (c .before .before .before .args .p)) (c .before .before .before .pre .0 .0) (c .before .before .touched .ensures) (c .before .begun-records .ensures) (c .begun-items .ensures) (c .before .before .before .pre .1 .0 .0)
+returns c = begun-is places (c .before .before .before .args .t1) (stepsOf (c .before .before .before .args .p)) (c .before .before .before .pre .0 .0) (c .before .before .touched .ensures) (c .before .begun-records .ensures) (c .begun-items .ensures) (c .before .before .before .pre .1 .0 .0)
 
 pub begun-spec : {M : Type 1} → statement M
 begun-spec =
