@@ -19,7 +19,7 @@ use Rattle.sheet.specs.declared.events.Event.{Event}
 use Rattle.sheet.specs.declared.playing.Played.{Played}
 use Rattle.sheet.specs.Lines.{eventLine, lentRoom, longestLine, lineAnswer, lineWritten}
 use Rattle.sheet.specs.Play.{Outcome, ofShow, outcome, outcomeLine, played, playedBuffer}
-use Rattle.sheet.specs.Told.{head, Plays}
+use Rattle.sheet.specs.Plays.{head, Plays}
 use Rattle.sheet.proofs.Writing.{line-written, shown-line, refused-line}
 
 -- ---- the answer number that the code tests

@@ -19,7 +19,7 @@ use Rattle.book.specs.declared.Answer.{Answer}
 use Rattle.book.specs.declared.Answer.the-variants.{Accepted}
 use Rattle.book.specs.Answers.{answerNumber, accepted}
 use Rattle.sheet.specs.Lines.{line, eventLine, refusalLine, lentRoom, longestLine, lineAnswer, lineWritten}
-use Rattle.sheet.specs.Told.{field, head}
+use Rattle.sheet.specs.Plays.{field, head}
 
 -- ---- what the layers below write: where there is room it is put, and never refused
 

@@ -5,5 +5,6 @@ pub mod Told
 pub mod Open
 pub mod Lines
 pub mod Play
+pub mod Plays
 pub mod Output
 pub mod Sample

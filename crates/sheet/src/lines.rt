@@ -7,7 +7,7 @@ ghost use Rattle.conditions.specs.Text.{bytes, decimal};
 ghost use Rattle.conditions.specs.Written.{Put};
 ghost use Rattle.book.specs.Answers.{answerNumber};
 ghost use Rattle.sheet.specs.Lines.{longestLine, eventLine, refusalLine, lineAnswer, lineWritten};
-ghost use Rattle.sheet.specs.Told.{field, head};
+ghost use Rattle.sheet.specs.Plays.{field, head};
 use book::Answer;
 use conditions::Written;
 use conditions::write_decimal;

@@ -6,7 +6,7 @@ ghost use Rattle.conditions.specs.Places.{places};
 ghost use Rattle.book.specs.Begin.{begin};
 ghost use Rattle.sheet.specs.Lines.{longestLine, eventLine};
 ghost use Rattle.sheet.specs.Play.{ofBegun, ofDone, ofShow, played, playedBuffer};
-ghost use Rattle.sheet.specs.Told.{Plays};
+ghost use Rattle.sheet.specs.Plays.{Plays};
 use crate::events::Event;
 use crate::lines::LENT;
 use crate::lines::LONGEST_LINE;
