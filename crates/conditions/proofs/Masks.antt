@@ -1,16 +1,17 @@
 -- The masks and shifts of the code are the definitions, for any number w of places.
 use mathlib.Core.Path.{_≡_, refl, sym, ap, ap₂, _∙_}
 use mathlib.Core.Bool.{Bool, true, false, not, _&&_, _||_, cond, and-true, and-false, or-false}
-use Prim.Native.Nat.{ℕ, _+_, _-_, _*_, _/_, _%_, _^_, _<_}
+use Prim.Native.Nat.{ℕ, zero, suc, _+_, _-_, _*_, _/_, _%_, _^_, _<_}
 use native.Mathlib.Nat.{lt-of-le-of-lt, mod-lt, one-mul}
 use native.Mathlib.Decide.{decLt}
 use native.Mathlib.Omega.{arith}
 use lib.Pow.{pow-pos, pow-lt, shr-le, shl-exact, ones-sub-lt}
 use lib.Bits.{bitAnd, bitOr, or-lt, and-le-l}
-use Rattle.conditions.specs.Sets.{member}
+use Rattle.conditions.specs.Sets.{member, setOf}
 use Rattle.conditions.specs.Places.{withPlace}
 use Rattle.conditions.specs.Conditions.{union, intersection, complement, completed, selected, reduced}
-use Rattle.conditions.proofs.Laws.Sets.{member-and, member-or, member-not, member-shr, member-shl, member-shl-below, member-mod, member-setOf-not, is-setOf}
+use Rattle.conditions.specs.Products.{agrees}
+use Rattle.conditions.proofs.Laws.Sets.{member-and, member-or, member-not, member-shr, member-shl, member-shl-below, member-mod, member-setOf-not, is-setOf, setOf-same}
 use Rattle.conditions.proofs.Laws.Places.{place-lt, member-set, place-same, place-up, place-down, member-more}
 use Rattle.conditions.proofs.Laws.Conditions.{member-complement, member-completed}
 
@@ -54,6 +55,31 @@ select-is w i {c} {d} hc hd q s =
     (is-setOf (2 ^ w) (bitOr (bitAnd c (completed w i)) (bitAnd d (others w i))) (λ a. cond (member a i) (member c a) (member d a))
     (or-lt (2 ^ w) (bitAnd c (completed w i)) (bitAnd d (others w i)) (lt-of-le-of-lt (and-le-l c (completed w i)) hc) (lt-of-le-of-lt (and-le-l d (others w i)) hd))
     (λ n h. simp (member-or, member-and, member-completed, member-others) (either (member n i) (member c n) (member d n))))
+
+-- ---- `c`, `c & m` or `c & !m`, as a tag asks
+
+pub tag-absent : (w i c : ℕ) {d : ℕ} → c < 2 ^ 2 ^ w → d ≡ 0 → c ≡ setOf (2 ^ w) (λ a. member c a && agrees d (member a i))
+tag-absent w i c hc z = rw z (is-setOf (2 ^ w) c (λ a. member c a && true) hc (λ a h. sym (and-true (member c a))))
+
+pub tag-completed : (w i c : ℕ) {d m r : ℕ} → d ≡ 1 → m ≡ completed w i → r ≡ intersection w c m → r ≡ setOf (2 ^ w) (λ a. member c a && agrees d (member a i))
+unfolding intersection
+tag-completed w i c z q e =
+    e ∙ rw (z, q)
+    (setOf-same (2 ^ w) (λ a. member c a && member (completed w i) a) (λ a. member c a && member a i)
+    (λ a h. ap (λ (x : Bool). member c a && x) (member-completed w i a h)))
+
+pub tag-aborted : (w i c : ℕ) {d m o r : ℕ} → (d ≡ 0 → ⊥) → (d ≡ 1 → ⊥) → m ≡ completed w i → o ≡ complement w m → r ≡ intersection w c o
+    → r ≡ setOf (2 ^ w) (λ a. member c a && agrees d (member a i))
+unfolding intersection
+tag-aborted w i c {d} z n q s e =
+    e ∙ rw (s, q)
+    (setOf-same (2 ^ w) (λ a. member c a && member (others w i) a) (λ a. member c a && agrees d (member a i))
+    (λ a h. ap (λ (x : Bool). member c a && x) (member-others w i a h ∙ asks-not d z n (member a i))))
+  where
+    asks-not : (d : ℕ) → (d ≡ 0 → ⊥) → (d ≡ 1 → ⊥) → (b : Bool) → not b ≡ agrees d b
+    asks-not zero z n b = absurd (z refl)
+    asks-not (suc zero) z n b = absurd (n refl)
+    asks-not (suc (suc d)) z n b = refl
 
 -- ---- `h | (h >> 2 ^ i)` with `h = c & m`
 

@@ -1,11 +1,12 @@
 // Products of tags: a digit to the base 3 for each place, 0 where it is absent, 1 where it is to be
 // completed, 2 where it is to be aborted.
 ghost use mathlib.Core.Path.{_≡_};
-ghost use mathlib.Core.Bool.{false};
+ghost use mathlib.Core.Bool.{false, _&&_};
 ghost use Prim.Native.Nat.{ℕ, _<_, _≤_, _^_};
+ghost use Rattle.conditions.specs.Sets.{member, setOf};
 ghost use Rattle.conditions.specs.Places.{places};
 ghost use Rattle.conditions.specs.Conditions.{number, dependsOn};
-ghost use Rattle.conditions.specs.Products.{tagAt, allowed, within, needed, prime, primeFrom, nextPrime};
+ghost use Rattle.conditions.specs.Products.{tagAt, agrees, allowed, within, needed, prime, primeFrom, nextPrime};
 use crate::condition::Condition;
 use crate::place::PLACES;
 use crate::place::Place;
@@ -24,6 +25,20 @@ pub(crate) fn power(i: usize) -> usize
     POWERS[i]
 }
 
+// The members of a set in which the place is as its tag asks.
+fn tagged(set: Condition, i: usize, tag: usize) -> Condition
+    ensures { λ r. ⌜ number r ≡ setOf (2 ^ places) (λ a. member (number set) a && agrees tag (member a i)) ⌝ }
+{
+    if tag == 0 {
+        return set;
+    }
+    let done = Condition::completed(Place(i));
+    if tag == 1 {
+        return set.intersection(done);
+    }
+    set.intersection(done.complement())
+}
+
 impl Product {
     // How many products there are.
     pub const COUNT: usize = 729;
@@ -36,11 +51,27 @@ impl Product {
         Condition(ALLOWED[p])
     }
 
+    // The same from its tags. `within` takes this one, since a constant table is built anew on the
+    // stack wherever it is read.
+    fn by_tags(self) -> Condition
+        ensures { λ r. ⌜ number r ≡ allowed places (self .0) ⌝ }
+    {
+        let mut set = Condition::FULL;
+        let mut rest = self.0;
+        let mut place: usize = 0;
+        while place < PLACES {
+            set = tagged(set, place, rest % 3);
+            rest /= 3;
+            place += 1;
+        }
+        set
+    }
+
     // Whether every assignment that it allows is a member.
     pub fn within(self, c: Condition) -> bool
         ensures { λ r. ⌜ r ≡ within places (self .0) (number c) ⌝ }
     {
-        let allowed = self.allowed();
+        let allowed = self.by_tags();
         (allowed.0 & !c.0) == 0
     }
 

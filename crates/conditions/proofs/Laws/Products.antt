@@ -8,9 +8,9 @@ use lib.Arith.{mod-mul}
 use lib.Dec.{eqb}
 use borrow.Author.Tests.{ne-eqb, eqb-true, eqb-false, not-true, not-false}
 use Rattle.conditions.specs.Below.{all, any}
-use Rattle.conditions.specs.Sets.{odd, member}
+use Rattle.conditions.specs.Sets.{odd, member, setOf}
 use Rattle.conditions.specs.Places.{withPlace}
-use Rattle.conditions.specs.Conditions.{dependsOn}
+use Rattle.conditions.specs.Conditions.{full, dependsOn}
 use Rattle.conditions.specs.Products.{tagAt, agrees, allows, allowed, within, dropped, needed, prime}
 use Rattle.conditions.proofs.Laws.Below.{and-left, and-right, or-left, or-right, by-cases, all-at, all-of, all-same, all-not, any-of, any-some}
 use Rattle.conditions.proofs.Laws.Sets.{member-zero, member-suc, same-members, setOf-lt, member-setOf, setOf-same}
@@ -26,6 +26,10 @@ tag-zero p = ap (λ (m : ℕ). m % 3) (div-one p)
 tag-suc : (p i : ℕ) → tagAt p (suc i) ≡ tagAt (p / 3) i
 unfolding tagAt
 tag-suc p i = ap (λ (m : ℕ). m % 3) (ap (λ (m : ℕ). p / m) (pow-succ' 3 i) ∙ sym (div-div-eq-div-mul p 3 (3 ^ i)))
+
+-- the tags from a place on, one place further
+pub tags-after : (p i : ℕ) {q : ℕ} → q ≡ p / 3 ^ i → q / 3 ≡ p / 3 ^ suc i
+tags-after p i e = rw (e, pow-suc 3 i) (div-div-eq-div-mul p (3 ^ i) 3)
 
 -- a product of w + 1 places, cut to them: the first tag, and the others
 cut-suc : (w p : ℕ) → p % 3 ^ suc w ≡ p / 3 % 3 ^ w * 3 + p % 3
@@ -116,6 +120,19 @@ member-allowed w p a h = member-setOf (2 ^ w) (allows w p) a h
 pub allowed-lt : (w p : ℕ) → allowed w p < 2 ^ 2 ^ w
 unfolding allowed
 allowed-lt w p = setOf-lt (2 ^ w) (allows w p)
+
+-- what the tags before a place allow: all before the first place, and what the next tag agrees with after it
+pub allows-none : (w p : ℕ) → full w ≡ setOf (2 ^ w) (allows 0 p)
+unfolding full allows all
+allows-none w p = refl
+
+pub allows-more : (w p i : ℕ) {c d r : ℕ} → c ≡ setOf (2 ^ w) (allows i p) → d ≡ tagAt p i → r ≡ setOf (2 ^ w) (λ a. member c a && agrees d (member a i))
+    → r ≡ setOf (2 ^ w) (allows (suc i) p)
+unfolding allows all
+allows-more w p i q t e =
+    e ∙ rw (q, t)
+    (setOf-same (2 ^ w) (λ a. member (setOf (2 ^ w) (allows i p)) a && agrees (tagAt p i) (member a i)) (allows (suc i) p)
+    (λ a h. ap (λ (x : Bool). x && agrees (tagAt p i) (member a i)) (member-setOf (2 ^ w) (allows i p) a h)))
 
 -- with a tag fewer it allows no less
 pub allows-dropped : (w p i a : ℕ) → allows w p a ≡ true → allows w (dropped p i) a ≡ true

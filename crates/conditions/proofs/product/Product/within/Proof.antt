@@ -5,11 +5,11 @@ use Rattle.conditions.proofs.Primes.{within-test}
 use Rattle.conditions.proofs.product.Product.within.Statement.{statement}
 use Rattle.conditions.proofs.product.Product.within.Tie as tie
 
-allowed-requires : tie.Need-allowed-requires
-allowed-requires c κs = search needs
+by-tags-requires : tie.Need-by-tags-requires
+by-tags-requires c κs = search needs
 
 returns : tie.Need-returns
-returns c = within-test places _ _ (search needs) (c .before .before .allowed .ensures)
+returns c = within-test places _ _ (search needs) (c .before .before .by-tags .ensures)
 
 pub within-spec : {M : Type 1} → statement M
-within-spec = tie.close (tie.spec allowed-requires returns)
+within-spec = tie.close (tie.spec by-tags-requires returns)
