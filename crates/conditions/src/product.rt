@@ -115,8 +115,8 @@ impl Product {
 }
 
 impl Condition {
-    // The condition's next prime product from a number on, or the number of products where there is
-    // none: its prime products by rising number.
+    // The condition's next prime product from a number on; where there is none, the number of
+    // products, or the number that it began from if that is past it.
     pub fn next_prime(self, from: Product) -> Product
         ensures { λ r. ⌜ r .0 ≡ nextPrime places (number self) (from .0) ⌝ }
     {
