@@ -7,7 +7,7 @@ use lib.IntN.{ℤ}
 use lib.ListN.{getD, replicate}
 use Rattle.conditions.specs.Below.{any}
 use Rattle.conditions.specs.Sets.{member}
-use Rattle.conditions.specs.Conditions.{number, full, intersection}
+use Rattle.conditions.specs.Conditions.{number, ofNumber, full, intersection}
 use Rattle.polyvalues.specs.declared.polyvalue.Polyvalue.{Polyvalue}
 use Rattle.polyvalues.specs.declared.polyvalue.Joined.{Joined}
 use Rattle.polyvalues.specs.Pairs.{assignments, applying}
@@ -72,7 +72,7 @@ pub record Covers (w : ℕ) (b : Book) (xs : List Step) (t : Worked) : Type 0 wh
 
 -- none is worked out yet
 unfoldable pub nothingWorked : Worked
-nothingWorked = record { fits = true; declines = false; grants = false; covered = record { 0 = 0 }; new = replicate mostItems (packed []) }
+nothingWorked = record { fits = true; declines = false; grants = false; covered = ofNumber 0; new = replicate mostItems (packed []) }
 
 -- what the answer says of them: "1 if no assignment declines, 0 if all do, 2 otherwise"
 abbrev pub grantOf : Worked → ℕ

@@ -1,4 +1,4 @@
--- "A book of items .. spread over districts" (document 01, The book): its tables, and what one reads off them.
+-- "A book of items .. spread over districts" (document 01, What is to be built): its tables, and what one reads off them.
 use mathlib.Core.Bool.{Bool, true, not, _&&_, _||_, cond}
 use mathlib.Core.List.{List, []}
 use Prim.Native.Nat.{ℕ}

@@ -1,5 +1,5 @@
--- "Open. Only a good sheet opens a book" (document 01, Events), "13: sheet malformed", "14: sheet over 32,768 bytes", "14 comes before 13, place 0" and
--- "a call that makes a book returns, refused, the all-zero book" (Answer numbers)
+-- "Open. Only a good sheet opens a book" (document 01, Events), "13: sheet malformed", "14: sheet over 32,768 bytes" and "a call that makes a book returns, refused, the
+-- all-zero book" (Answer numbers), "14 comes before 13, place 0" (The sheet and the program)
 use mathlib.Core.Bool.{cond}
 use mathlib.Core.List.{List}
 use Prim.Native.Nat.{ℕ}

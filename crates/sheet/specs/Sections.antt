@@ -12,7 +12,7 @@ use Rattle.sheet.specs.Events.{oneMore}
 
 -- ---- "1. count (1 byte, 1 to 8), then a district code each (1 byte, 1 to 255, strictly rising)"
 
--- a code is above the one before it
+-- a code is above the one before it; that it is at most 255 is what a byte can hold
 unfoldable pub code : ℕ → ℕ → List ℕ → Read ℕ
 code last at s = byte (λ c. ltb last c) at s
 
