@@ -12,7 +12,7 @@ use Rattle.polyvalues.specs.Values.{inRange, signed}
 use Rattle.book.specs.declared.Opening.{Opening}
 use Rattle.book.specs.Answers.{accepted}
 use Rattle.book.specs.Book.{mostDistricts, mostItems, noBook}
-use Rattle.book.specs.Open.{goodItem, goodItems, goodOpening}
+use Rattle.book.specs.Open.{goodItem, goodItems, goodOpening, opened}
 use Rattle.book.proofs.Laws.Calls.{Whole}
 use Rattle.book.proofs.Laws.OpenedShaped.{opened-whole}
 use Rattle.sheet.specs.Readers.{Read, wrong, right, andThen, repeat, byte, word, between, end}
