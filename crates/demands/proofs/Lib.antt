@@ -13,5 +13,6 @@ pub mod Demand3
 mod Sheets
 pub mod Demand1
 pub mod Demand2
+mod Lines
 pub mod Examples
 pub mod All

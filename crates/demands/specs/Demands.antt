@@ -10,8 +10,9 @@ use lib.ListN.{length, getD}
 use Rattle.conditions.specs.declared.condition.Condition.{Condition}
 use Rattle.conditions.specs.declared.product.Product.{Product}
 use Rattle.conditions.specs.Sets.{member, setOf}
-use Rattle.conditions.specs.Places.{withPlace}
+use Rattle.conditions.specs.Places.{places, withPlace}
 use Rattle.conditions.specs.Conditions.{number}
+use Rattle.conditions.specs.Text.{bytes as bytesOf}
 use Rattle.conditions.specs.Written.{room, written}
 use Rattle.conditions.specs.Example.{Example10}
 use Rattle.polyvalues.specs.declared.polyvalue.Pair.{Pair}
@@ -40,7 +41,7 @@ use Rattle.book.specs.GiveUp.{marked}
 use Rattle.book.specs.Decide.{someNotReady, withDecision}
 use Rattle.book.specs.Hear.{outcome}
 use Rattle.book.specs.Show.{heldLine, showAnswer, shown}
-use Rattle.book.specs.Examples.{Example1, Example2, Example3, Example4, Example5, Example6, Example7, Example8, Example9}
+use Rattle.book.specs.Examples.{twice, told, Example1, Example2, Example3, Example4, Example5, Example6, Example7, Example8, Example9}
 use Rattle.book.proofs.Laws.Shaped.{Shaped}
 use Rattle.book.proofs.Laws.Calls.{Whole}
 use Rattle.sheet.specs.Readers.{wrong, right}
@@ -280,8 +281,13 @@ OnSheets w =
 
 -- ==== "Marked examples (prove these ten)"
 
+-- 8 and 9 as show writes them, after the count of pairs: "`0:T1&T2 1:!T1&T2 4:T1&!T2 5:!T1&!T2`" and "`0:T2 4:!T2`"
+pub record Lines : Type 0 where
+  pub eight : heldLine places twice 0 ≡ bytesOf "4 0:T1&T2 1:!T1&T2 4:T1&!T2 5:!T1&!T2"
+  pub nine : heldLine places told 0 ≡ bytesOf "2 0:T2 4:!T2"
+
 abbrev pub MarkedExamples : Type 0
-MarkedExamples = Example1 × Example2 × Example3 × Example4 × Example5 × Example6 × Example7 × Example8 × Example9 × Example10
+MarkedExamples = Example1 × Example2 × Example3 × Example4 × Example5 × Example6 × Example7 × Example8 × Example9 × Example10 × Lines
 
 -- ==== all of it
 
