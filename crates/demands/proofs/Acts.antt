@@ -19,7 +19,9 @@ use Rattle.book.proofs.Laws.Sound.{place-named}
 use Rattle.book.proofs.Laws.But.{SoundBut, place-open}
 use Rattle.book.proofs.Laws.Forgetting.{forget-open, forget-is-open}
 use Rattle.book.proofs.Laws.Calls.{Whole}
-use Rattle.demands.specs.Demands.{Leaves, itsRow}
+use Rattle.demands.specs.Calls.{Call}
+use Rattle.demands.specs.Past.{asksBegin}
+use Rattle.demands.specs.Demands.{rowWith, rowAfter, Leaves}
 
 -- ---- what an accepted call leaves before it forgets
 
@@ -96,15 +98,15 @@ acts w b e c n o s v place number f last districts count opens = record {
   rows = λ q h. f .rows q h ∙ ap (remembered w c q) (opens q);
 }
 
--- what it leaves, where it moves no item to another district
-pub acts-leaves : (w : ℕ) (b c : Book) (n : ℕ) (o : Open) → Acts w b c n o → ((i : ℕ) → i < b .count → itemAt c i .district ≡ itemAt b i .district)
-    → Leaves w b c (b .last .0) (itsRow w b n o)
-acts-leaves w b c n o act belongs = record {
-  last = ap (λ (x : TransactionNumber). x .0) (act .last);
+-- what such a call leaves, where it moves no item to another district
+pub acts-leaves : (w : ℕ) (b c : Book) (n : ℕ) (o : Open) (call : Call) → Acts w b c n o → asksBegin call ≡ false
+    → ((q : ℕ) → rowWith b (placeOf w b n) o q ≡ rowAfter w b call q) → ((i : ℕ) → i < b .count → itemAt c i .district ≡ itemAt b i .district) → Leaves w call b c
+acts-leaves w b c n o call act none row belongs = record {
+  last = rw none (ap (λ (x : TransactionNumber). x .0) (act .last));
   districts = act .districts;
   count = act .count;
   belongs = belongs;
-  places = act .rows;
+  places = λ q h. act .rows q h ∙ ap (remembered w c q) (row q);
 }
 
 module _ (w : ℕ) (b c : Book) (n : ℕ) (o : Open) (act : Acts w b c n o) where

@@ -1,11 +1,9 @@
 -- Demand 2, from the laws of the book: one for each event.
 use mathlib.Core.Path.{_≡_, refl, sym, _∙_, ap}
 use mathlib.Core.Bool.{true, false, not, _||_, cond, or-false, or-true}
-use mathlib.Core.List.{List}
 use Prim.Native.Nat.{ℕ, _<_}
-use native.Mathlib.Omega.{arith}
 use lib.Dec.{eqb}
-use borrow.Author.Tests.{eqb-true, eqb-false, eq-eqb, ne-eqb, not-true, not-false}
+use borrow.Author.Tests.{eqb-true, eq-eqb, ne-eqb}
 use Rattle.conditions.proofs.Laws.Below.{by-cases}
 use Rattle.polyvalues.specs.Pairs.{at}
 use Rattle.polyvalues.specs.Polyvalues.{inUse}
@@ -17,35 +15,23 @@ use Rattle.book.specs.declared.Open.{Open}
 use Rattle.book.specs.Answers.{accepted}
 use Rattle.book.specs.Book.{recordAt, itemAt, openAt, isOpen, placeOf, someDepends, someOn}
 use Rattle.book.specs.Records.{computingOn}
-use Rattle.book.specs.Forget.{decided, needed, remembered}
+use Rattle.book.specs.Forget.{decided, needed}
 use Rattle.book.specs.Transactions.{openOf}
 use Rattle.book.specs.Ready.{reported}
 use Rattle.book.specs.GiveUp.{marked}
 use Rattle.book.specs.Begin.{heldAt}
-use Rattle.book.specs.Show.{showAnswer, shown}
-use Rattle.book.proofs.Laws.Answers.{test-false}
-use Rattle.book.proofs.Laws.Sound.{test-sound}
+use Rattle.book.specs.Show.{shown}
 use Rattle.book.proofs.Laws.Shaped.{Shaped}
 use Rattle.book.proofs.Laws.Events.{begin-values, ready-keeps, give-up-values, complete-keeps, abort-keeps, hear-values}
 use Rattle.demands.specs.Calls.{Call, begins, readies, givesUp, completes, aborts, hears, shows, answerTo, bookAfter}
-use Rattle.demands.specs.Demands.{pendingAt, Values, Leaves, itsRow, isDecided, Demand2}
-use Rattle.demands.proofs.Acts.{Acts, acts-leaves, acts-number, acts-other}
-use Rattle.demands.proofs.Items.{give-up-district, hear-district, begin-district}
-use Rattle.demands.proofs.Tables.{ready-acts, give-up-acts, complete-acts, abort-acts, hear-acts, begin-last, begin-number, begin-grant, begin-districts, begin-count, begin-rows, begin-stays, ready-record, give-up-record, complete-record, abort-record, hear-record, begin-record}
+use Rattle.demands.specs.Demands.{pendingAt, Values, isDecided, Demand2}
+use Rattle.demands.proofs.Acts.{Acts, acts-number, acts-other}
+use Rattle.demands.proofs.Tables.{ready-acts, give-up-acts, complete-acts, abort-acts, hear-acts, begin-number, begin-grant, begin-stays, ready-record, give-up-record, complete-record, abort-record, hear-record, begin-record}
+use Rattle.demands.proofs.Leaving.{show-left, leaves}
 
 -- an item that stays has its values
 stays : (b c : Book) (i : ℕ) → itemAt c i ≡ itemAt b i → (a : ℕ) → Values c a i (heldAt b a i) (pendingAt b a i)
 stays b c i e a = record { held = ap (λ (x : Item). at (inUse (x .held)) a) e; pending = ap (λ (x : Item). at (inUse (x .pending)) a) e }
-
--- an event that keeps the transaction's row keeps every row
-same-leaves : (w : ℕ) (b c : Book) (n : ℕ) → Leaves w b c (b .last .0) (itsRow w b n (openOf w b n)) → Leaves w b c (b .last .0) (openAt b)
-same-leaves w b c n f = record {
-  last = f .last;
-  districts = f .districts;
-  count = f .count;
-  belongs = f .belongs;
-  places = λ q h. f .places q h ∙ ap (remembered w c q) (by-cases (eqb q (placeOf w b n)) (λ z. rw (z, eqb-true q (placeOf w b n) z)) (λ z. rw z));
-}
 
 -- ---- forgetting
 
@@ -61,16 +47,6 @@ row-decides w b c n o act e q h k =
     (λ z. rw (z, e, eqb-true q (placeOf w b n) z, eq-eqb n (openOf w b n .number .0) (sym (acts-number w b c n o act))) (sym (or-true (decided (openOf w b n)))))
     (λ z. rw (z, ne-eqb n (openAt b q .number .0) (acts-other w b c n o act q h k z)) (sym (or-false _)))
 
--- show forgets nothing: an accepted one was handed a sound book, in which what is decided is needed
-shown-stays : (w : ℕ) (b : Book) (i : ℕ) (buf : List ℕ) → accepted (showAnswer w b i buf) ≡ true → (q : ℕ) → q < w → isOpen (openAt b q) ≡ true
-    → isOpen (openAt b q) ≡ (not (decided (openAt b q)) || needed w b q (openAt b q))
-unfolding showAnswer
-shown-stays w b i buf e q h k =
-    let s = test-sound w b (not-false _ (test-false _ _ _ refl e)) in
-    k ∙ by-cases (decided (openAt b q))
-    (λ z. rw (z, s .decidedNeeded q h k (omega (arith, eqb-false (openAt b q .decision) 0 (not-true _ z)))))
-    (λ z. rw z)
-
 forgets : (w : ℕ) (c : Call) (b : Book) → Shaped w b → accepted (answerTo w b c) ≡ true → (q : ℕ) → q < w → isOpen (openAt b q) ≡ true
     → isOpen (openAt (bookAfter w b c) q) ≡ (not (isDecided b c q) || (someOn (bookAfter w b c) (openAt b q .number .0) || someDepends w (bookAfter w b c) q))
 unfolding needed
@@ -83,7 +59,7 @@ forgets w (completes n) b t e q h k =
     let act = complete-acts w b t n e in act .stays q h k ∙ rw (row-decides w b _ n _ act refl q h k, or-false (eqb n (openAt b q .number .0)))
 forgets w (aborts n) b t e q h k = let act = abort-acts w b t n e in act .stays q h k ∙ rw (row-decides w b _ n _ act refl q h k)
 forgets w (hears n d) b t e q h k = let act = hear-acts w b t n d e in act .stays q h k ∙ rw (row-decided w b n (openOf w b n) q refl)
-forgets w (shows i buf) b t e q h k = shown-stays w b i buf e q h k ∙ rw (or-false (decided (openAt b q)))
+forgets w (shows i buf) b t e q h k = show-left w b t i buf e .stays q h k ∙ rw (or-false (decided (openAt b q)))
 
 pub demand-2 : (w : ℕ) → Demand2 w
 unfolding shown
@@ -93,29 +69,18 @@ demand-2 w = record {
   unique = unique w;
   beginning = λ bytes b t e i h a l. let v = begin-values w b t i h a l bytes e in record { held = v .held; pending = v .pending };
   beginningRecords = λ bytes b t e d h. begin-record w b t bytes e d h;
-  beginningLeaves = λ bytes b t e. record {
-    last = begin-last w b t bytes e;
-    districts = begin-districts w b t bytes e;
-    count = begin-count w b t bytes e;
-    belongs = λ i h. begin-district w b t i h bytes e;
-    places = begin-rows w b t bytes e;
-  };
   beginningAnswer = λ bytes b t e. (begin-number w b t bytes e, begin-grant w b t bytes e);
   readiness = λ n d b t e i h a l. stays b _ i (ready-keeps w b n d e i) a;
   readinessRecords = λ n d b t e x h. ready-record w b t n d e x;
-  readinessLeaves = λ n d b t e. acts-leaves w b _ n _ (ready-acts w b t n d e) (λ i h. ap (λ (x : Item). x .district) (ready-keeps w b n d e i));
   givingUp = λ n d b t e i h a l. let v = give-up-values w b t i h a l n d e in record { held = v .held; pending = v .pending };
   givingUpRecords = λ n d b t e x h. give-up-record w b t n d e x;
-  givingUpLeaves = λ n d b t e. acts-leaves w b _ n _ (give-up-acts w b t n d e) (λ i h. give-up-district w b t i h n d e);
   completing = λ n b t e i h a l. stays b _ i (complete-keeps w b n e i) a;
   completingRecords = λ n b t e x h. complete-record w b t n e x;
-  completingLeaves = λ n b t e. acts-leaves w b _ n _ (complete-acts w b t n e) (λ i h. ap (λ (x : Item). x .district) (complete-keeps w b n e i));
   aborting = λ n b t e i h a l. stays b _ i (abort-keeps w b n e i) a;
   abortingRecords = λ n b t e x h. abort-record w b t n e x;
-  abortingLeaves = λ n b t e. acts-leaves w b _ n _ (abort-acts w b t n e) (λ i h. ap (λ (x : Item). x .district) (abort-keeps w b n e i));
   hearing = λ n d b t e i h a l. let v = hear-values w b t i h a l n d e in record { held = v .held; pending = v .pending };
   hearingRecords = λ n d b t e x h. hear-record w b t n d e x;
-  hearingLeaves = λ n d b t e. same-leaves w b _ n (acts-leaves w b _ n _ (hear-acts w b t n d e) (λ i h. hear-district w b t i h n d e));
+  leaving = leaves w;
   forgetting = forgets w;
   showing = λ b i buf e. rw e;
 }

@@ -1,6 +1,7 @@
 mod Acts
 mod Tables
 mod Items
+mod Leaving
 mod Assignments
 mod Ledger
 mod Marking

@@ -154,26 +154,31 @@ abbrev pub heardAt : ℕ → Book → ℕ → ℕ → (ℕ → ℕ → ℤ) → 
 heardAt w b n d old a i =
     cond (busyOn n (recordAt b d)) (cond (outcome (openOf w b n)) (pendingAt b (setAt w b n a) i) (heldAt b (setAt w b n a) i)) (old (setAt w b n a) i)
 
--- what an accepted call leaves besides values and records: m is the last number given, no district or item is added or moved, and each place has the row that the event gives
--- it, or is freed where "Forgetting" says so
-pub record Leaves (w : ℕ) (b after : Book) (m : ℕ) (row : ℕ → Open) : Type 0 where
-  pub last : after .last .0 ≡ m
-  pub districts : after .districts ≡ b .districts
-  pub count : after .count ≡ b .count
-  pub belongs : (i : ℕ) → i < b .count → itemAt after i .district ≡ itemAt b i .district
-  pub places : (q : ℕ) → q < w → openAt after q ≡ remembered w after q (row q)
-
 -- "An open transaction keeps its touched districts, those that reported ready, those that gave up before ready, and its decision": that of a program of these steps, as it begins
 abbrev pub newRow : Book → List Step → Open
 newRow b xs = record { number = record { 0 = suc (b .last .0) }; touched = setOf mostDistricts (touchesDistrict b xs); ready = 0; gave = 0; decision = 0 }
 
--- the row at place q when it begins: its place is "the lowest free one"
-abbrev pub begunRow : ℕ → Book → List Step → ℕ → Open
-begunRow w b xs q = cond (eqb q (freePlace w b)) (newRow b xs) (openAt b q)
+-- the row at place q where that at place p becomes o
+abbrev pub rowWith : Book → ℕ → Open → ℕ → Open
+rowWith b p o q = cond (eqb q p) o (openAt b q)
 
--- the row at place q when that of the transaction number n becomes o
-abbrev pub itsRow : ℕ → Book → ℕ → Open → ℕ → Open
-itsRow w b n o q = cond (eqb q (placeOf w b n)) o (openAt b q)
+-- the row at place q after a call, before it forgets: a transaction begins at "the lowest free" place; each event on one changes its row alone
+abbrev pub rowAfter : ℕ → Book → Call → ℕ → Open
+rowAfter w b (begins bytes) = rowWith b (freePlace w b) (newRow b (steps bytes))
+rowAfter w b (readies n d) = rowWith b (placeOf w b n) (reported d (openOf w b n))
+rowAfter w b (givesUp n d) = rowWith b (placeOf w b n) (cond (computingOn n (recordAt b d)) (marked d (openOf w b n)) (openOf w b n))
+rowAfter w b (completes n) = rowWith b (placeOf w b n) (withDecision 1 (openOf w b n))
+rowAfter w b (aborts n) = rowWith b (placeOf w b n) (withDecision 2 (openOf w b n))
+rowAfter w b (hears n d) = openAt b
+rowAfter w b (shows i buf) = openAt b
+
+-- what an accepted call leaves besides values and records: no district or item is added or moved, and each place has its row, or is freed where "Forgetting" says so
+pub record Leaves (w : ℕ) (c : Call) (b after : Book) : Type 0 where
+  pub last : after .last .0 ≡ cond (asksBegin c) (suc (b .last .0)) (b .last .0)
+  pub districts : after .districts ≡ b .districts
+  pub count : after .count ≡ b .count
+  pub belongs : (i : ℕ) → i < b .count → itemAt after i .district ≡ itemAt b i .district
+  pub places : (q : ℕ) → q < w → openAt after q ≡ remembered w after q (rowAfter w b c q)
 
 -- item i is in district d
 abbrev pub isIn : Book → ℕ → ℕ → Bool
@@ -194,31 +199,26 @@ pub record Demand2 (w : ℕ) : Type 0 where
       Values after a i (heldAt b a i) (cond (touches (steps bytes) i) (run (steps bytes) (heldAt b a) i) (pendingAt b a i))))
   pub beginningRecords : (bytes : List ℕ) → Accepts w (begins bytes) (λ b after. Records b after (λ d.
       cond (touchesDistrict b (steps bytes) d) (beginRecord (suc (b .last .0))) (recordAt b d)))
-  pub beginningLeaves : (bytes : List ℕ) → Accepts w (begins bytes) (λ b after. Leaves w b after (suc (b .last .0)) (begunRow w b (steps bytes)))
   -- "The answer is the number and a grant: 1 if no assignment declines, 0 if all do, 2 otherwise."
   pub beginningAnswer : (bytes : List ℕ) → Accepts w (begins bytes) (λ b after. (begin w b bytes .number .0 ≡ suc (b .last .0)) × (begin w b bytes .grant ≡ grant w b (steps bytes)))
   -- "readiness"
   pub readiness : (n d : ℕ) → Accepts w (readies n d) (λ b after. EachValue w b (λ a i. Values after a i (heldAt b a i) (pendingAt b a i)))
   pub readinessRecords : (n d : ℕ) → Accepts w (readies n d) (λ b after. Records b after (λ e. cond (eqb e d) (readyRecord (recordAt b e)) (recordAt b e)))
-  pub readinessLeaves : (n d : ℕ) → Accepts w (readies n d) (λ b after. Leaves w b after (b .last .0) (itsRow w b n (reported d (openOf w b n))))
   -- "giving up"
   pub givingUp : (n d : ℕ) → Accepts w (givesUp n d) (λ b after. EachValue w b (λ a i.
       Values after a i (cond (isIn b d i) (givenUpAt w b n d a i) (heldAt b a i)) (cond (isIn b d i) (givenUpAt w b n d a i) (pendingAt b a i))))
   pub givingUpRecords : (n d : ℕ) → Accepts w (givesUp n d) (λ b after. Records b after (λ e. cond (eqb e d) noRecord (recordAt b e)))
-  pub givingUpLeaves : (n d : ℕ) → Accepts w (givesUp n d) (λ b after.
-      Leaves w b after (b .last .0) (itsRow w b n (cond (computingOn n (recordAt b d)) (marked d (openOf w b n)) (openOf w b n))))
   -- "decision"
   pub completing : (n : ℕ) → Accepts w (completes n) (λ b after. EachValue w b (λ a i. Values after a i (heldAt b a i) (pendingAt b a i)))
   pub completingRecords : (n : ℕ) → Accepts w (completes n) (λ b after. Records b after (recordAt b))
-  pub completingLeaves : (n : ℕ) → Accepts w (completes n) (λ b after. Leaves w b after (b .last .0) (itsRow w b n (withDecision 1 (openOf w b n))))
   pub aborting : (n : ℕ) → Accepts w (aborts n) (λ b after. EachValue w b (λ a i. Values after a i (heldAt b a i) (pendingAt b a i)))
   pub abortingRecords : (n : ℕ) → Accepts w (aborts n) (λ b after. Records b after (recordAt b))
-  pub abortingLeaves : (n : ℕ) → Accepts w (aborts n) (λ b after. Leaves w b after (b .last .0) (itsRow w b n (withDecision 2 (openOf w b n))))
   -- "hearing"
   pub hearing : (n d : ℕ) → Accepts w (hears n d) (λ b after. EachValue w b (λ a i.
       Values after a i (cond (isIn b d i) (heardAt w b n d (heldAt b) a i) (heldAt b a i)) (cond (isIn b d i) (heardAt w b n d (pendingAt b) a i) (pendingAt b a i))))
   pub hearingRecords : (n d : ℕ) → Accepts w (hears n d) (λ b after. Records b after (λ e. cond (eqb e d) (hearRecord n (recordAt b e)) (recordAt b e)))
-  pub hearingLeaves : (n d : ℕ) → Accepts w (hears n d) (λ b after. Leaves w b after (b .last .0) (openAt b))
+  -- the last number, the counts, the items' districts and the places
+  pub leaving : (c : Call) → Accepts w c (Leaves w c)
   -- "At the end of each accepted event, a decided transaction is closed, and its place freed, exactly when no district is on it and no held or pending polyvalue depends on it."
   pub forgetting : (c : Call) → Accepts w c (λ b after. (q : ℕ) → q < w → isOpen (openAt b q) ≡ true
       → isOpen (openAt after q) ≡ (not (isDecided b c q) || (someOn after (openAt b q .number .0) || someDepends w after q)))
