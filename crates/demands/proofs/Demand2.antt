@@ -28,6 +28,7 @@ use Rattle.demands.specs.Demands.{pendingAt, Values, isDecided, Demand2}
 use Rattle.demands.proofs.Acts.{Acts, acts-number, acts-other}
 use Rattle.demands.proofs.Tables.{ready-acts, give-up-acts, complete-acts, abort-acts, hear-acts, begin-number, begin-grant, begin-stays, ready-record, give-up-record, complete-record, abort-record, hear-record, begin-record}
 use Rattle.demands.proofs.Leaving.{show-left, leaves}
+use Rattle.demands.proofs.Settled.{settled}
 
 -- an item that stays has its values
 stays : (b c : Book) (i : ℕ) → itemAt c i ≡ itemAt b i → (a : ℕ) → Values c a i (heldAt b a i) (pendingAt b a i)
@@ -81,6 +82,7 @@ demand-2 w = record {
   hearing = λ n d b t e i h a l. let v = hear-values w b t i h a l n d e in record { held = v .held; pending = v .pending };
   hearingRecords = λ n d b t e x h. hear-record w b t n d e x;
   leaving = leaves w;
+  settled = settled w;
   forgetting = forgets w;
   showing = λ b i buf e. rw e;
 }

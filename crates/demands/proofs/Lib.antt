@@ -12,6 +12,7 @@ mod Invariant
 mod Opening
 pub mod Demand3
 mod Sheets
+mod Settled
 pub mod Demand1
 pub mod Demand2
 mod Lines

@@ -219,6 +219,9 @@ pub record Demand2 (w : ℕ) : Type 0 where
   pub hearingRecords : (n d : ℕ) → Accepts w (hears n d) (λ b after. Records b after (λ e. cond (eqb e d) (hearRecord n (recordAt b e)) (recordAt b e)))
   -- the last number, the counts, the items' districts and the places
   pub leaving : (c : Call) → Accepts w c (Leaves w c)
+  -- and that is all of the book: two whole books that have what a call leaves, and the same records and values, are one
+  pub settled : (c : Call) (b x y : Book) → Whole w x → Whole w y → Leaves w c b x → Leaves w c b y → Records b x (recordAt y)
+      → EachValue w b (λ a i. Values x a i (heldAt y a i) (pendingAt y a i)) → x ≡ y
   -- "At the end of each accepted event, a decided transaction is closed, and its place freed, exactly when no district is on it and no held or pending polyvalue depends on it."
   pub forgetting : (c : Call) → Accepts w c (λ b after. (q : ℕ) → q < w → isOpen (openAt b q) ≡ true
       → isOpen (openAt after q) ≡ (not (isDecided b c q) || (someOn after (openAt b q .number .0) || someDepends w after q)))
