@@ -6,17 +6,22 @@ use native.Mathlib.Omega.{arith}
 use lib.Dec.{eqb, ltb}
 use borrow.Author.Tests.{eqb-true, eqb-false, ltb-true, ltb-false}
 use Rattle.conditions.proofs.Laws.Below.{by-cases}
+use Rattle.conditions.specs.declared.place.TransactionNumber.{TransactionNumber}
 use Rattle.book.specs.declared.Book.{Book}
 use Rattle.book.specs.declared.Open.{Open}
-use Rattle.book.specs.Book.{recordAt, openAt, isOpen, placeOf, someDepends, someOn}
-use Rattle.book.specs.Forget.{decided, needed, forget}
+use Rattle.book.specs.Book.{noOpen, recordAt, itemAt, openAt, isOpen, placeOf, someDepends, someOn}
+use Rattle.book.specs.Forget.{decided, needed, remembered, forget}
 use Rattle.book.specs.Transactions.{openOf}
 use Rattle.book.specs.Sound.{Sound}
+use Rattle.book.proofs.Laws.Rows.{getD-rows}
 use Rattle.book.proofs.Laws.Shaped.{Shaped}
 use Rattle.book.proofs.Laws.Sound.{place-named}
 use Rattle.book.proofs.Laws.But.{SoundBut, place-open}
 use Rattle.book.proofs.Laws.Forgetting.{forget-open, forget-is-open}
 use Rattle.book.proofs.Laws.Calls.{Whole}
+use Rattle.demands.specs.Calls.{Call}
+use Rattle.demands.specs.Past.{asksBegin}
+use Rattle.demands.specs.Demands.{rowWith, rowAfter, Leaves}
 
 -- ---- what an accepted call leaves before it forgets
 
@@ -28,9 +33,10 @@ pub record Left (w : ℕ) (e c : Book) : Type 0 where
   pub records : (d : ℕ) → recordAt c d ≡ recordAt e d
   pub opens : (q : ℕ) → q < w → isOpen (openAt c q) ≡ true → openAt c q ≡ openAt e q
   pub stays : (q : ℕ) → q < w → isOpen (openAt e q) ≡ true → isOpen (openAt c q) ≡ (not (decided (openAt e q)) || needed w c q (openAt e q))
+  pub rows : (q : ℕ) → q < w → openAt c q ≡ remembered w c q (openAt e q)
 
 pub left : (w : ℕ) (e c : Book) → c ≡ forget w e → SoundBut w e → Shaped w e → Left w e c
-unfolding forget needed someOn someDepends
+unfolding forget needed remembered someOn someDepends
 left w e c same s t = record {
   last = ap (λ (b : Book). b .last) same;
   districts = ap (λ (b : Book). b .districts) same;
@@ -38,6 +44,7 @@ left w e c same s t = record {
   records = λ d. ap (λ (b : Book). recordAt b d) same;
   opens = λ q h k. let k′ : isOpen (openAt (forget w e) q) ≡ true = rw same at k in ap (λ (b : Book). openAt b q) same ∙ forget-open w e s t q h k′;
   stays = λ q h k. rw same (forget-is-open w e s t q h k);
+  rows = λ q h. rw same (getD-rows (remembered w e) noOpen w (e .«open») q h (omega (arith, t .places)));
 }
 
 -- ---- an accepted call on an open transaction
@@ -54,6 +61,7 @@ pub record Acts (w : ℕ) (b c : Book) (n : ℕ) (o : Open) : Type 0 where
   pub opens : (q : ℕ) → q < w → isOpen (openAt c q) ≡ true → openAt c q ≡ cond (eqb q (placeOf w b n)) o (openAt b q)
   pub stays : (q : ℕ) → q < w → isOpen (openAt b q) ≡ true
       → isOpen (openAt c q) ≡ (not (decided (cond (eqb q (placeOf w b n)) o (openAt b q))) || needed w c q (openAt b q))
+  pub rows : (q : ℕ) → q < w → openAt c q ≡ remembered w c q (cond (eqb q (placeOf w b n)) o (openAt b q))
 
 -- a row of the transaction's number is open where its own is, and needed where its own is
 same-number : (w : ℕ) (c : Book) (q : ℕ) (o r : Open) → o .number ≡ r .number → (isOpen o ≡ isOpen r) × (needed w c q o ≡ needed w c q r)
@@ -87,6 +95,18 @@ acts w b e c n o s v place number f last districts count opens = record {
   count = f .count ∙ count;
   opens = λ q h k. f .opens q h k ∙ opens q;
   stays = acts-stays w b e c n o f number opens;
+  rows = λ q h. f .rows q h ∙ ap (remembered w c q) (opens q);
+}
+
+-- what such a call leaves, where it moves no item to another district
+pub acts-leaves : (w : ℕ) (b c : Book) (n : ℕ) (o : Open) (call : Call) → Acts w b c n o → asksBegin call ≡ false
+    → ((q : ℕ) → rowWith b (placeOf w b n) o q ≡ rowAfter w b call q) → ((i : ℕ) → i < b .count → itemAt c i .district ≡ itemAt b i .district) → Leaves w call b c
+acts-leaves w b c n o call act none row belongs = record {
+  last = rw none (ap (λ (x : TransactionNumber). x .0) (act .last));
+  districts = act .districts;
+  count = act .count;
+  belongs = belongs;
+  places = λ q h. act .rows q h ∙ ap (remembered w c q) (row q);
 }
 
 module _ (w : ℕ) (b c : Book) (n : ℕ) (o : Open) (act : Acts w b c n o) where

@@ -1,8 +1,12 @@
 -- Demand 1.
-use mathlib.Core.Path.{_≡_, refl, sym, _∙_}
+use mathlib.Core.Path.{_≡_, refl, sym, _∙_, ap}
 use mathlib.Core.Bool.{Bool, true, false, cond}
 use mathlib.Core.List.{List, [], _∷_}
 use Prim.Native.Nat.{ℕ}
+use borrow.Author.Tests.{lt-ltb, le-ltb}
+use Rattle.conditions.specs.Conditions.{ofNumber}
+use Rattle.conditions.proofs.Laws.Conditions.{of-number}
+use Rattle.polyvalues.proofs.Laws.Asked.{asked-number}
 use Rattle.book.specs.declared.Answer.{Answer}
 use Rattle.book.specs.declared.Book.{Book}
 use Rattle.book.specs.Answers.{answerNumber, firstOf}
@@ -16,8 +20,10 @@ use Rattle.book.specs.Hear.{hearAnswer, hear}
 use Rattle.book.specs.Show.{showAnswer, shown}
 use Rattle.book.proofs.Laws.Open.{no-book-unsound}
 use Rattle.book.proofs.Laws.OpenedShaped.{opened-whole}
-use Rattle.book.proofs.Laws.NeverFull.{give-up-never-full, complete-never-full, abort-never-full, hear-never-full}
+use Rattle.book.proofs.Laws.Room.{give-up-room, hear-room}
 use Rattle.book.proofs.Laws.Calls.{Whole, ready-whole, give-up-whole, complete-whole, abort-whole, hear-whole, begin-whole}
+use Rattle.sheet.specs.Open.{openedSheet, openSheet}
+use Rattle.sheet.specs.Open.{refused as sheetRefused}
 use Rattle.demands.specs.Calls.{Call, begins, readies, givesUp, completes, aborts, hears, shows, answerTo, bookAfter}
 use Rattle.demands.specs.Demands.{orderOf, testsOf, firstNumber, Demand1, OneResult}
 use Rattle.demands.proofs.Invariant.{refused-book}
@@ -56,7 +62,7 @@ keeps w b (hears n d) v = hear-whole w b n d v
 keeps w b (shows i buf) v = v
 
 pub demand-1 : (w : ℕ) → Demand1 w
-unfolding opened shown done giveUp complete abort hear
+unfolding opened shown openSheet openedSheet sheetRefused
 demand-1 w = record {
   answers = answers w;
   refused = refused-book w;
@@ -64,11 +70,17 @@ demand-1 w = record {
   opens = opened-whole w;
   opensNone = λ districts xs e. (rw e, no-book-unsound w);
   keeps = keeps w;
-  giveUpRoom = give-up-never-full w;
-  completeRoom = complete-never-full w;
-  abortRoom = abort-never-full w;
-  hearRoom = hear-never-full w;
+  tooLong = λ s h. record { answer = rw (lt-ltb _ _ h); place = rw (lt-ltb _ _ h); book = rw (lt-ltb _ _ h) };
+  malformed = λ s h p e. record { answer = rw (le-ltb _ _ h, e); place = rw (le-ltb _ _ h, e); book = rw (le-ltb _ _ h, e) };
+  wellFormed = λ s h x at rest e. record { answer = rw (le-ltb _ _ h, e); place = rw (le-ltb _ _ h, e); book = rw (le-ltb _ _ h, e) };
+  asking = asked-number w;
+  giveUpRoom = give-up-room w;
+  hearRoom = hear-room w;
 }
 
 pub one-result : OneResult
-one-result A definition r s e f = e ∙ sym f
+one-result = record {
+  results = λ A definition r s e f. e ∙ sym f;
+  conditions = λ c d e. sym (of-number c) ∙ ap ofNumber e ∙ of-number d;
+  products = λ p q e. ap (λ (n : ℕ). record { 0 = n }) e;
+}

@@ -1,11 +1,9 @@
 -- Demand 2, from the laws of the book: one for each event.
 use mathlib.Core.Path.{_≡_, refl, sym, _∙_, ap}
 use mathlib.Core.Bool.{true, false, not, _||_, cond, or-false, or-true}
-use mathlib.Core.List.{List}
 use Prim.Native.Nat.{ℕ, _<_}
-use native.Mathlib.Omega.{arith}
 use lib.Dec.{eqb}
-use borrow.Author.Tests.{eqb-true, eqb-false, eq-eqb, ne-eqb, not-true, not-false}
+use borrow.Author.Tests.{eqb-true, eq-eqb, ne-eqb}
 use Rattle.conditions.proofs.Laws.Below.{by-cases}
 use Rattle.polyvalues.specs.Pairs.{at}
 use Rattle.polyvalues.specs.Polyvalues.{inUse}
@@ -22,15 +20,15 @@ use Rattle.book.specs.Transactions.{openOf}
 use Rattle.book.specs.Ready.{reported}
 use Rattle.book.specs.GiveUp.{marked}
 use Rattle.book.specs.Begin.{heldAt}
-use Rattle.book.specs.Show.{showAnswer, shown}
-use Rattle.book.proofs.Laws.Answers.{test-false}
-use Rattle.book.proofs.Laws.Sound.{test-sound}
+use Rattle.book.specs.Show.{shown}
 use Rattle.book.proofs.Laws.Shaped.{Shaped}
 use Rattle.book.proofs.Laws.Events.{begin-values, ready-keeps, give-up-values, complete-keeps, abort-keeps, hear-values}
 use Rattle.demands.specs.Calls.{Call, begins, readies, givesUp, completes, aborts, hears, shows, answerTo, bookAfter}
 use Rattle.demands.specs.Demands.{pendingAt, Values, isDecided, Demand2}
 use Rattle.demands.proofs.Acts.{Acts, acts-number, acts-other}
 use Rattle.demands.proofs.Tables.{ready-acts, give-up-acts, complete-acts, abort-acts, hear-acts, begin-number, begin-grant, begin-stays, ready-record, give-up-record, complete-record, abort-record, hear-record, begin-record}
+use Rattle.demands.proofs.Leaving.{show-left, leaves}
+use Rattle.demands.proofs.Settled.{settled}
 
 -- an item that stays has its values
 stays : (b c : Book) (i : ℕ) → itemAt c i ≡ itemAt b i → (a : ℕ) → Values c a i (heldAt b a i) (pendingAt b a i)
@@ -50,16 +48,6 @@ row-decides w b c n o act e q h k =
     (λ z. rw (z, e, eqb-true q (placeOf w b n) z, eq-eqb n (openOf w b n .number .0) (sym (acts-number w b c n o act))) (sym (or-true (decided (openOf w b n)))))
     (λ z. rw (z, ne-eqb n (openAt b q .number .0) (acts-other w b c n o act q h k z)) (sym (or-false _)))
 
--- show forgets nothing: an accepted one was handed a sound book, in which what is decided is needed
-shown-stays : (w : ℕ) (b : Book) (i : ℕ) (buf : List ℕ) → accepted (showAnswer w b i buf) ≡ true → (q : ℕ) → q < w → isOpen (openAt b q) ≡ true
-    → isOpen (openAt b q) ≡ (not (decided (openAt b q)) || needed w b q (openAt b q))
-unfolding showAnswer
-shown-stays w b i buf e q h k =
-    let s = test-sound w b (not-false _ (test-false _ _ _ refl e)) in
-    k ∙ by-cases (decided (openAt b q))
-    (λ z. rw (z, s .decidedNeeded q h k (omega (arith, eqb-false (openAt b q .decision) 0 (not-true _ z)))))
-    (λ z. rw z)
-
 forgets : (w : ℕ) (c : Call) (b : Book) → Shaped w b → accepted (answerTo w b c) ≡ true → (q : ℕ) → q < w → isOpen (openAt b q) ≡ true
     → isOpen (openAt (bookAfter w b c) q) ≡ (not (isDecided b c q) || (someOn (bookAfter w b c) (openAt b q .number .0) || someDepends w (bookAfter w b c) q))
 unfolding needed
@@ -72,7 +60,7 @@ forgets w (completes n) b t e q h k =
     let act = complete-acts w b t n e in act .stays q h k ∙ rw (row-decides w b _ n _ act refl q h k, or-false (eqb n (openAt b q .number .0)))
 forgets w (aborts n) b t e q h k = let act = abort-acts w b t n e in act .stays q h k ∙ rw (row-decides w b _ n _ act refl q h k)
 forgets w (hears n d) b t e q h k = let act = hear-acts w b t n d e in act .stays q h k ∙ rw (row-decided w b n (openOf w b n) q refl)
-forgets w (shows i buf) b t e q h k = shown-stays w b i buf e q h k ∙ rw (or-false (decided (openAt b q)))
+forgets w (shows i buf) b t e q h k = show-left w b t i buf e .stays q h k ∙ rw (or-false (decided (openAt b q)))
 
 pub demand-2 : (w : ℕ) → Demand2 w
 unfolding shown
@@ -93,6 +81,8 @@ demand-2 w = record {
   abortingRecords = λ n b t e x h. abort-record w b t n e x;
   hearing = λ n d b t e i h a l. let v = hear-values w b t i h a l n d e in record { held = v .held; pending = v .pending };
   hearingRecords = λ n d b t e x h. hear-record w b t n d e x;
+  leaving = leaves w;
+  settled = settled w;
   forgetting = forgets w;
   showing = λ b i buf e. rw e;
 }

@@ -8,7 +8,6 @@ use lib.ListN.{length}
 use borrow.Author.Tests.{eqb-true}
 use Rattle.conditions.proofs.Laws.Below.{by-cases}
 use Rattle.book.specs.declared.Book.{Book}
-use Rattle.book.specs.declared.Item.{Item}
 use Rattle.book.specs.declared.Opening.{Opening}
 use Rattle.book.specs.Answers.{accepted}
 use Rattle.book.specs.Book.{itemAt, idle, itemOn}
@@ -17,13 +16,12 @@ use Rattle.book.specs.Open.{goodOpening, opened}
 use Rattle.book.proofs.Laws.Sound.{on-none}
 use Rattle.book.proofs.Laws.Values.{held-complete, pending-complete}
 use Rattle.book.proofs.Laws.But.{busy-on}
-use Rattle.book.proofs.Laws.Events.{ready-keeps, complete-keeps, abort-keeps}
 use Rattle.book.proofs.Laws.Calls.{Whole}
 use Rattle.demands.specs.Calls.{Call, begins, readies, givesUp, completes, aborts, hears, shows, answerTo, numberGiven, bookAfter, History, nothing, _then_, bookOf}
 use Rattle.demands.specs.Past.{Said, asksBegin, begun, Guess, serial, pastOf}
 use Rattle.demands.specs.Demands.{openingOf, districtOf, Says, Right, Serially, Demand3}
-use Rattle.demands.proofs.Tables.{ready-acts, give-up-acts, complete-acts, abort-acts, hear-acts, begin-count, begin-number}
-use Rattle.demands.proofs.Items.{give-up-district, hear-district, begin-district}
+use Rattle.demands.proofs.Tables.{begin-number}
+use Rattle.demands.proofs.Leaving.{leaves}
 use Rattle.demands.proofs.Assignments.{saying}
 use Rattle.demands.proofs.Guesses.{cautious}
 use Rattle.demands.proofs.Choosing.{chosenAt}
@@ -37,19 +35,10 @@ record Kept (b c : Book) : Type 0 where
   count : c .count ≡ b .count
   districts : (i : ℕ) → i < b .count → itemAt c i .district ≡ itemAt b i .district
 
-accepted-kept : (w : ℕ) (b : Book) → Whole w b → (c : Call) → accepted (answerTo w b c) ≡ true → Kept b (bookAfter w b c)
-accepted-kept w b v (begins bytes) e = record { count = begin-count w b (v .shaped) bytes e; districts = λ i h. begin-district w b (v .shaped) i h bytes e }
-accepted-kept w b v (readies n d) e = record { count = ready-acts w b (v .shaped) n d e .count; districts = λ i h. ap (λ (x : Item). x .district) (ready-keeps w b n d e i) }
-accepted-kept w b v (givesUp n d) e = record { count = give-up-acts w b (v .shaped) n d e .count; districts = λ i h. give-up-district w b (v .shaped) i h n d e }
-accepted-kept w b v (completes n) e = record { count = complete-acts w b (v .shaped) n e .count; districts = λ i h. ap (λ (x : Item). x .district) (complete-keeps w b n e i) }
-accepted-kept w b v (aborts n) e = record { count = abort-acts w b (v .shaped) n e .count; districts = λ i h. ap (λ (x : Item). x .district) (abort-keeps w b n e i) }
-accepted-kept w b v (hears n d) e = record { count = hear-acts w b (v .shaped) n d e .count; districts = λ i h. hear-district w b (v .shaped) i h n d e }
-accepted-kept w b v (shows i buf) e = record { count = refl; districts = λ i h. refl }
-
 call-kept : (w : ℕ) (b : Book) → Whole w b → (c : Call) → Kept b (bookAfter w b c)
 call-kept w b v c =
     by-cases (accepted (answerTo w b c))
-    (λ e. accepted-kept w b v c e)
+    (λ e. let l = leaves w c b (v .shaped) e in record { count = l .count; districts = l .belongs })
     (λ e. rw (refused-book w b c e) (record { count = refl; districts = λ i h. refl }))
 
 -- ---- what the invariant says of one item

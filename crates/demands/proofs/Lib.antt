@@ -1,6 +1,7 @@
 mod Acts
 mod Tables
 mod Items
+mod Leaving
 mod Assignments
 mod Ledger
 mod Marking
@@ -11,7 +12,9 @@ mod Invariant
 mod Opening
 pub mod Demand3
 mod Sheets
+mod Settled
 pub mod Demand1
 pub mod Demand2
+mod Lines
 pub mod Examples
 pub mod All

@@ -14,6 +14,7 @@ use Rattle.book.specs.declared.Open.{Open}
 use Rattle.book.specs.declared.Record.{Record}
 use Rattle.book.specs.Answers.{accepted}
 use Rattle.book.specs.Book.{mostDistricts, recordAt, openAt, isOpen, placeOf, freePlace}
+use Rattle.book.specs.Programs.{steps}
 use Rattle.book.specs.Records.{computingOn, waitingOn, busyOn}
 use Rattle.book.specs.Forget.{decided}
 use Rattle.book.specs.Transactions.{openOf}
@@ -29,7 +30,8 @@ use Rattle.book.proofs.Laws.But.{place-open, computing-on, busy-is}
 use Rattle.book.proofs.Laws.Calls.{GivesUp}
 use Rattle.demands.specs.Calls.{Call, begins, readies, givesUp, completes, aborts, hears}
 use Rattle.demands.specs.Past.{Said, said, wasReady, givesUpEarly, wasGivenUp, begun}
-use Rattle.demands.proofs.Tables.{ready-facts, ready-acts, give-up-facts, give-up-acts, complete-facts, complete-acts, abort-facts, abort-acts, hear-acts, begin-last, begin-districts, begin-row, begin-places}
+use Rattle.demands.specs.Demands.{newRow}
+use Rattle.demands.proofs.Tables.{ready-facts, ready-acts, give-up-facts, give-up-acts, complete-facts, complete-acts, abort-facts, abort-acts, hear-acts, begin-last, begin-districts, begin-places}
 use Rattle.demands.proofs.Ledger.{given-up-now, silent-same, Same, Marks, Turns, same-marks, same-unmarked, Ledger, row-marks, acts-ledger}
 
 -- a record that is busy and not computing waits
@@ -193,7 +195,7 @@ module _ (w : ℕ) (b : Book) (t : Shaped w b) (past : List Said) (l : Ledger w 
     quiet : (n : ℕ) → Same past (now (begins bytes)) n
     quiet n = silent-same past (said w b (begins bytes)) n refl
 
-    newMarks : Marks (now (begins bytes)) (b .districts) (suc (b .last .0)) (begin-row w b t bytes e)
+    newMarks : Marks (now (begins bytes)) (b .districts) (suc (b .last .0)) (newRow b (steps bytes))
     newMarks =
         let n = suc (b .last .0) in
         let u = l .fresh n (omega arith) in

@@ -6,16 +6,14 @@ use Prim.Native.Nat.{ℕ, suc, _<_}
 use native.Mathlib.Omega.{arith}
 use lib.Dec.{eqb}
 use borrow.Author.Tests.{eqb-true}
-use Rattle.conditions.specs.Sets.{setOf}
 use Rattle.conditions.proofs.Laws.Below.{by-cases}
 use Rattle.book.specs.declared.Book.{Book}
-use Rattle.book.specs.declared.Open.{Open}
 use Rattle.conditions.specs.declared.place.TransactionNumber.{TransactionNumber}
 use Rattle.book.specs.Answers.{accepted}
-use Rattle.book.specs.Book.{mostDistricts, noRecord, recordAt, openAt, isOpen, placeOf, freePlace}
+use Rattle.book.specs.Book.{noRecord, recordAt, openAt, isOpen, placeOf, freePlace}
 use Rattle.book.specs.Programs.{steps}
 use Rattle.book.specs.Records.{computingOn, beginRecord, readyRecord, hearRecord}
-use Rattle.book.specs.Forget.{decided, needed}
+use Rattle.book.specs.Forget.{decided, needed, remembered}
 use Rattle.book.specs.Transactions.{openOf, done}
 use Rattle.book.specs.Sound.{Sound}
 use Rattle.book.specs.Begin.{grant, touchesDistrict, begun, begin}
@@ -31,6 +29,8 @@ use Rattle.book.proofs.Laws.DecideSound.{decide-shaped, decide-opens, decide-bu
 use Rattle.book.proofs.Laws.HearSound.{hear-shaped, hear-records, hear-but}
 use Rattle.book.proofs.Laws.BeginSound.{Begins, begin-shaped, begin-records, begin-opens, free-place, begin-but}
 use Rattle.book.proofs.Laws.Calls.{Whole, Readies, GivesUp, Completes, Aborts, Hears, done-accepted, begin-accepted, ready-tests, give-up-tests, complete-tests, abort-tests, hear-tests, begin-tests, ready-whole, give-up-whole, complete-whole, abort-whole, hear-whole, begin-whole}
+use Rattle.demands.specs.Calls.{begins}
+use Rattle.demands.specs.Demands.{rowAfter}
 use Rattle.demands.proofs.Acts.{Left, left, Acts, acts}
 
 module _ (w : ℕ) (b : Book) (t : Shaped w b) where
@@ -198,19 +198,12 @@ module _ (w : ℕ) (b : Book) (t : Shaped w b) where
         → recordAt (begin w b bytes .book) d ≡ cond (touchesDistrict b (steps bytes) d) (beginRecord (suc (b .last .0))) (recordAt b d)
     begin-record d h = beginLeft .records d ∙ begin-records w b (begin-facts .0) t (steps bytes) (begin-facts .1) d h
 
-    -- the row of the transaction that begins
-    abbrev pub begin-row : Open
-    begin-row = record {
-      number = record { 0 = suc (b .last .0) };
-      touched = setOf mostDistricts (touchesDistrict b (steps bytes));
-      ready = 0;
-      gave = 0;
-      decision = 0;
-    }
-
     pub begin-places : (q : ℕ) → q < w → isOpen (openAt (begin w b bytes .book) q) ≡ true
-        → openAt (begin w b bytes .book) q ≡ cond (eqb q (freePlace w b)) begin-row (openAt b q)
+        → openAt (begin w b bytes .book) q ≡ rowAfter w b (begins bytes) q
     begin-places q h k = beginLeft .opens q h k ∙ begin-opens w b (begin-facts .0) t (steps bytes) (begin-facts .1) q
+
+    pub begin-rows : (q : ℕ) → q < w → openAt (begin w b bytes .book) q ≡ remembered w (begin w b bytes .book) q (rowAfter w b (begins bytes) q)
+    begin-rows q h = beginLeft .rows q h ∙ ap (remembered w (begin w b bytes .book) q) (begin-opens w b (begin-facts .0) t (steps bytes) (begin-facts .1) q)
 
     -- no transaction that was open is forgotten but as it must be
     pub begin-stays : (q : ℕ) → q < w → isOpen (openAt b q) ≡ true

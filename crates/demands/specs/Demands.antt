@@ -1,42 +1,52 @@
 -- The customer's three demands, and the marked examples of document 01, as statements. Their proofs stand in ../proofs: whoever reads this file, and the definitions that it
--- names, has read what is proved. All of it holds for any number w of places; that of the code is `places`, in crate conditions.
+-- names, has read what is proved. All of it holds for any number w of places but for the marked examples, which are of the code's places: `places`, in crate conditions.
 use mathlib.Core.Path.{_≡_}
-use mathlib.Core.Bool.{Bool, true, false, not, _||_, cond}
+use mathlib.Core.Bool.{Bool, true, false, not, _&&_, _||_, cond}
 use mathlib.Core.List.{List, [], _∷_}
-use Prim.Native.Nat.{ℕ, suc, _^_, _<_}
+use Prim.Native.Nat.{ℕ, suc, _^_, _≤_, _<_}
 use lib.Dec.{eqb, ltb}
 use lib.IntN.{ℤ, pos}
 use lib.ListN.{length, getD}
-use Rattle.conditions.specs.Sets.{member}
-use Rattle.conditions.specs.Places.{withPlace}
+use Rattle.conditions.specs.declared.condition.Condition.{Condition}
+use Rattle.conditions.specs.declared.product.Product.{Product}
+use Rattle.conditions.specs.Sets.{member, setOf}
+use Rattle.conditions.specs.Places.{places, withPlace}
+use Rattle.conditions.specs.Conditions.{number}
+use Rattle.conditions.specs.Text.{bytes as bytesOf}
 use Rattle.conditions.specs.Written.{room, written}
 use Rattle.conditions.specs.Example.{Example10}
 use Rattle.polyvalues.specs.declared.polyvalue.Pair.{Pair}
-use Rattle.polyvalues.specs.Pairs.{at, hits}
+use Rattle.polyvalues.specs.Pairs.{at, hits, asked}
+use Rattle.polyvalues.specs.Asked.{askedAs, askedNumber}
 use Rattle.polyvalues.specs.Polyvalues.{Complete, WellFormed, inUse}
-use Rattle.book.specs.declared.Answer.the-variants.{TooManyValues}
+use Rattle.polyvalues.specs.Polyvalues.{room as mostPairs}
+use Rattle.polyvalues.specs.Operations.{reduce, select}
 use Rattle.book.specs.declared.Book.{Book}
+use Rattle.book.specs.declared.Open.{Open}
 use Rattle.book.specs.declared.Opening.{Opening}
 use Rattle.book.specs.declared.Record.{Record}
+use Rattle.book.specs.declared.Step.{Step}
 use Rattle.book.specs.Answers.{answerNumber, accepted}
-use Rattle.book.specs.Book.{lastNumber, noRecord, noBook, recordAt, itemAt, openAt, idle, isOpen, placeOf, freePlace, someDepends, someOn}
+use Rattle.book.specs.Book.{mostDistricts, lastNumber, noRecord, noBook, recordAt, itemAt, openAt, idle, isOpen, placeOf, freePlace, someDepends, someOn}
 use Rattle.book.specs.Programs.{steps, run, touches}
 use Rattle.book.specs.Records.{computingOn, busyOn, beginRecord, readyRecord, hearRecord}
-use Rattle.book.specs.Forget.{decided}
+use Rattle.book.specs.Forget.{decided, remembered}
 use Rattle.book.specs.Transactions.{unsound, notOpen, noDistrict, openOf}
 use Rattle.book.specs.Open.{goodOpening, opened}
 use Rattle.book.specs.Sound.{Sound}
 use Rattle.book.specs.SoundTest.{sound}
 use Rattle.book.specs.Begin.{someStep, badProgram, outside, heldAt, grant, someBusy, tooMany, touchesDistrict, begin}
-use Rattle.book.specs.Decide.{someNotReady}
+use Rattle.book.specs.Ready.{reported}
+use Rattle.book.specs.GiveUp.{marked}
+use Rattle.book.specs.Decide.{someNotReady, withDecision}
 use Rattle.book.specs.Hear.{outcome}
 use Rattle.book.specs.Show.{heldLine, showAnswer, shown}
-use Rattle.book.specs.Examples.{Example1, Example2, Example3, Example4, Example5, Example6, Example7, Example8, Example9}
+use Rattle.book.specs.Examples.{twice, told, Example1, Example2, Example3, Example4, Example5, Example6, Example7, Example8, Example9}
 use Rattle.book.proofs.Laws.Shaped.{Shaped}
 use Rattle.book.proofs.Laws.Calls.{Whole}
-use Rattle.sheet.specs.Readers.{right}
+use Rattle.sheet.specs.Readers.{wrong, right}
 use Rattle.sheet.specs.Sections.{Sheet, sheet}
-use Rattle.sheet.specs.Open.{openSheet}
+use Rattle.sheet.specs.Open.{mostBytes, openSheet}
 use Rattle.demands.specs.Calls.{Call, begins, readies, givesUp, completes, aborts, hears, shows, answerTo, numberGiven, bookAfter, History, bookOf}
 use Rattle.demands.specs.Past.{Said, pastOf, asksBegin, asksComplete, asksAbort, begun, Guess, serial}
 
@@ -70,6 +80,12 @@ firstNumber [] numbers = 0
 firstNumber (t ∷ tests) [] = 0
 firstNumber (t ∷ tests) (n ∷ numbers) = cond t n (firstNumber tests numbers)
 
+-- what opening the sheet s gives: the answer's number, the place and the book
+pub record SheetGives (w : ℕ) (s : List ℕ) (n p : ℕ) (b : Book) : Type 0 where
+  pub answer : answerNumber (openSheet w s .answer) ≡ n
+  pub place : openSheet w s .place ≡ p
+  pub book : openSheet w s .book ≡ b
+
 pub record Demand1 (w : ℕ) : Type 0 where
   -- "Every call with every argument ends with an answer or one of the numbered refusals, given exactly when its row says."
   pub answers : (b : Book) (c : Call) → answerNumber (answerTo w b c) ≡ firstNumber (testsOf w b c) (orderOf c)
@@ -81,15 +97,24 @@ pub record Demand1 (w : ℕ) : Type 0 where
   pub opens : (districts : ℕ) (xs : List Opening) → goodOpening districts xs ≡ true → Whole w (opened w districts xs)
   pub opensNone : (districts : ℕ) (xs : List Opening) → goodOpening districts xs ≡ false → (opened w districts xs ≡ noBook w) × (sound w (noBook w) ≡ false)
   pub keeps : (b : Book) (c : Call) → Whole w b → Whole w (bookAfter w b c)
-  -- "Deciding, hearing and giving up never lack room." (document 01)
-  pub giveUpRoom : (b : Book) (n d : ℕ) → answerTo w b (givesUp n d) ≡ TooManyValues → ⊥
-  pub completeRoom : (b : Book) (n : ℕ) → answerTo w b (completes n) ≡ TooManyValues → ⊥
-  pub abortRoom : (b : Book) (n : ℕ) → answerTo w b (aborts n) ≡ TooManyValues → ⊥
-  pub hearRoom : (b : Book) (n d : ℕ) → answerTo w b (hears n d) ≡ TooManyValues → ⊥
+  -- "sheet over 32,768 bytes"; "14 comes before 13, place 0"; 13 gives the place that its reading found wrong; a sheet that was read opens its book
+  pub tooLong : (s : List ℕ) → mostBytes < length s → SheetGives w s 14 0 (noBook w)
+  pub malformed : (s : List ℕ) → length s ≤ mostBytes → (p : ℕ) → sheet s ≡ wrong p → SheetGives w s 13 p (noBook w)
+  pub wellFormed : (s : List ℕ) → length s ≤ mostBytes → (x : Sheet) (at : ℕ) (rest : List ℕ) → sheet s ≡ right x at rest → SheetGives w s 0 0 (opened w (x .districts) (x .items))
+  -- "It refuses (2) if the assignment's number is over 63, or unless exactly one pair of the list applies.": any list of pairs
+  pub asking : (ps : List Pair) (a : ℕ) → askedNumber (askedAs (asked w ps a)) ≡ cond (ltb a (2 ^ w) && eqb (hits ps a) 1) 0 2
+  -- "Deciding, hearing and giving up never lack room." (document 01): 8 is not in their lists above. Deciding changes no polyvalue (demand 2); what giving up makes of an item's
+  -- pending and held value, and hearing of each, are at most `mostPairs` pairs, whatever the place and the outcome.
+  pub giveUpRoom : (b : Book) → Sound w b → (i : ℕ) → i < b .count → (q : ℕ) → length (select w q (inUse (itemAt b i .pending)) (inUse (itemAt b i .held))) ≤ mostPairs
+  pub hearRoom : (b : Book) → Sound w b → (i : ℕ) → i < b .count → (q : ℕ) (o : Bool)
+      → (length (reduce w q o (inUse (itemAt b i .held))) ≤ mostPairs) × (length (reduce w q o (inUse (itemAt b i .pending))) ≤ mostPairs)
 
--- "any two results it allows are equal" (document 01, How strong the contracts are): once for every contract, since each says `r ≡ definition`
-abbrev pub OneResult : Type 1
-OneResult = (A : Type 0) (definition r s : A) → r ≡ definition → s ≡ definition → r ≡ s
+-- "any two results it allows are equal" (document 01, How strong the contracts are): once for every contract, since each says `r ≡ definition` (of a lent buffer, what it
+-- holds afterwards); but where the result is a condition, or a product, a contract may say what its number is, and the number settles it
+pub record OneResult : Type 1 where
+  pub results : (A : Type 0) (definition r s : A) → r ≡ definition → s ≡ definition → r ≡ s
+  pub conditions : (c d : Condition) → number c ≡ number d → c ≡ d
+  pub products : (p q : Product) → p .0 ≡ q .0 → p ≡ q
 
 -- ==== Demand 2
 
@@ -129,6 +154,32 @@ abbrev pub heardAt : ℕ → Book → ℕ → ℕ → (ℕ → ℕ → ℤ) → 
 heardAt w b n d old a i =
     cond (busyOn n (recordAt b d)) (cond (outcome (openOf w b n)) (pendingAt b (setAt w b n a) i) (heldAt b (setAt w b n a) i)) (old (setAt w b n a) i)
 
+-- "An open transaction keeps its touched districts, those that reported ready, those that gave up before ready, and its decision": that of a program of these steps, as it begins
+abbrev pub newRow : Book → List Step → Open
+newRow b xs = record { number = record { 0 = suc (b .last .0) }; touched = setOf mostDistricts (touchesDistrict b xs); ready = 0; gave = 0; decision = 0 }
+
+-- the row at place q where that at place p becomes o
+abbrev pub rowWith : Book → ℕ → Open → ℕ → Open
+rowWith b p o q = cond (eqb q p) o (openAt b q)
+
+-- the row at place q after a call, before it forgets: a transaction begins at "the lowest free" place; each event on one changes its row alone
+abbrev pub rowAfter : ℕ → Book → Call → ℕ → Open
+rowAfter w b (begins bytes) = rowWith b (freePlace w b) (newRow b (steps bytes))
+rowAfter w b (readies n d) = rowWith b (placeOf w b n) (reported d (openOf w b n))
+rowAfter w b (givesUp n d) = rowWith b (placeOf w b n) (cond (computingOn n (recordAt b d)) (marked d (openOf w b n)) (openOf w b n))
+rowAfter w b (completes n) = rowWith b (placeOf w b n) (withDecision 1 (openOf w b n))
+rowAfter w b (aborts n) = rowWith b (placeOf w b n) (withDecision 2 (openOf w b n))
+rowAfter w b (hears n d) = openAt b
+rowAfter w b (shows i buf) = openAt b
+
+-- what an accepted call leaves besides values and records: no district or item is added or moved, and each place has its row, or is freed where "Forgetting" says so
+pub record Leaves (w : ℕ) (c : Call) (b after : Book) : Type 0 where
+  pub last : after .last .0 ≡ cond (asksBegin c) (suc (b .last .0)) (b .last .0)
+  pub districts : after .districts ≡ b .districts
+  pub count : after .count ≡ b .count
+  pub belongs : (i : ℕ) → i < b .count → itemAt after i .district ≡ itemAt b i .district
+  pub places : (q : ℕ) → q < w → openAt after q ≡ remembered w after q (rowAfter w b c q)
+
 -- item i is in district d
 abbrev pub isIn : Book → ℕ → ℕ → Bool
 isIn b d i = eqb (itemAt b i .district) d
@@ -166,6 +217,11 @@ pub record Demand2 (w : ℕ) : Type 0 where
   pub hearing : (n d : ℕ) → Accepts w (hears n d) (λ b after. EachValue w b (λ a i.
       Values after a i (cond (isIn b d i) (heardAt w b n d (heldAt b) a i) (heldAt b a i)) (cond (isIn b d i) (heardAt w b n d (pendingAt b) a i) (pendingAt b a i))))
   pub hearingRecords : (n d : ℕ) → Accepts w (hears n d) (λ b after. Records b after (λ e. cond (eqb e d) (hearRecord n (recordAt b e)) (recordAt b e)))
+  -- the last number, the counts, the items' districts and the places
+  pub leaving : (c : Call) → Accepts w c (Leaves w c)
+  -- and that is all of the book: two whole books that have what a call leaves, and the same records and values, are one
+  pub settled : (c : Call) (b x y : Book) → Whole w x → Whole w y → Leaves w c b x → Leaves w c b y → Records b x (recordAt y)
+      → EachValue w b (λ a i. Values x a i (heldAt y a i) (pendingAt y a i)) → x ≡ y
   -- "At the end of each accepted event, a decided transaction is closed, and its place freed, exactly when no district is on it and no held or pending polyvalue depends on it."
   pub forgetting : (c : Call) → Accepts w c (λ b after. (q : ℕ) → q < w → isOpen (openAt b q) ≡ true
       → isOpen (openAt after q) ≡ (not (isDecided b c q) || (someOn after (openAt b q .number .0) || someDepends w after q)))
@@ -228,8 +284,13 @@ OnSheets w =
 
 -- ==== "Marked examples (prove these ten)"
 
+-- 8 and 9 as show writes them, after the count of pairs: "`0:T1&T2 1:!T1&T2 4:T1&!T2 5:!T1&!T2`" and "`0:T2 4:!T2`"
+pub record Lines : Type 0 where
+  pub eight : heldLine places twice 0 ≡ bytesOf "4 0:T1&T2 1:!T1&T2 4:T1&!T2 5:!T1&!T2"
+  pub nine : heldLine places told 0 ≡ bytesOf "2 0:T2 4:!T2"
+
 abbrev pub MarkedExamples : Type 0
-MarkedExamples = Example1 × Example2 × Example3 × Example4 × Example5 × Example6 × Example7 × Example8 × Example9 × Example10
+MarkedExamples = Example1 × Example2 × Example3 × Example4 × Example5 × Example6 × Example7 × Example8 × Example9 × Example10 × Lines
 
 -- ==== all of it
 
