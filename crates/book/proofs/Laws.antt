@@ -26,5 +26,4 @@ pub mod HearSound
 pub mod BeginSound
 pub mod Calls
 pub mod Events
-pub mod NeverFull
 pub mod OpenedShaped
