@@ -1,15 +1,17 @@
 -- The lines of examples 8 and 9, by computation: the calls run once more, and the primes of each condition are sought.
 use mathlib.Core.Path.{refl}
-use Rattle.conditions.specs.Below.{all, any, first}
+use Rattle.conditions.specs.Below.{all, any, first, those}
 use Rattle.conditions.specs.Sets.{odd, member, setOf}
 use Rattle.conditions.specs.Places.{withPlace}
 use Rattle.conditions.specs.Conditions.{full, union, intersection, complement, empty, completed, selected, reduced, dependsOn}
-use Rattle.polyvalues.specs.Values.{inRange, signed, ofBytes}
+use Rattle.conditions.specs.Products.{tagAt, allows, within, dropped, prime, primes, needed as tagNeeded}
+use Rattle.conditions.specs.Text.{digits, decimal, prefixed, joined, tagText, tagsText, productText, conditionText}
+use Rattle.polyvalues.specs.Values.{inRange, signed, ofBytes, valueText}
 use Rattle.polyvalues.specs.Pairs.{depends, certain}
-use Rattle.polyvalues.specs.Polyvalues.{wellFormed, inUse, tidy, packed}
-use Rattle.polyvalues.specs.Polyvalues.{sound as soundPolyvalue}
+use Rattle.polyvalues.specs.Polyvalues.{wellFormed, inUse, tidy, packed, sound as soundPolyvalue}
 use Rattle.polyvalues.specs.Simplify.{insert, join, simplifiedFrom, simplified, tableBelow, canonOver, canon}
 use Rattle.polyvalues.specs.Operations.{reduce, select, different, together}
+use Rattle.polyvalues.specs.Text.{pairText, lineText}
 use Rattle.book.specs.Answers.{firstOf}
 use Rattle.book.specs.Rows.{rowsFrom}
 use Rattle.book.specs.Book.{noItem, noBook, recordOn, itemOn, placeOf, freePlace, itemDepends, someDepends, someOn}
@@ -26,12 +28,6 @@ use Rattle.book.specs.GiveUp.{giveUpAnswer, giveUpItem, gaveUp, giveUp}
 use Rattle.book.specs.Decide.{someNotReady, completeAnswer, decide, complete}
 use Rattle.book.specs.Hear.{hearAnswer, hearItem, heard, hear}
 use Rattle.book.specs.Examples.{bookOf, leftOpen, unsure, twice, told}
-use Rattle.conditions.specs.Below.{those}
-use Rattle.conditions.specs.Products.{tagAt, allows, within, dropped, prime, primes}
-use Rattle.conditions.specs.Products.{needed as tagNeeded}
-use Rattle.conditions.specs.Text.{digits, decimal, prefixed, joined, tagText, tagsText, productText, conditionText}
-use Rattle.polyvalues.specs.Values.{valueText}
-use Rattle.polyvalues.specs.Text.{pairText, lineText}
 use Rattle.book.specs.Show.{heldLine}
 use Rattle.demands.specs.Demands.{Lines}
 

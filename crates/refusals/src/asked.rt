@@ -1,6 +1,7 @@
 // 2: a list of pairs is refused if the assignment's number is over 63, or unless exactly one pair
 // applies.
 use crate::print;
+use conditions::ASSIGNMENTS;
 use conditions::Condition;
 use conditions::Place;
 use polyvalues::Asked;
@@ -19,14 +20,14 @@ fn value_under(p: Polyvalue, assignment: usize) {
     print::line_end();
 }
 
-pub fn lists() {
+pub(crate) fn lists() {
     let done = Pair {
         value: 4,
         condition: Condition::completed(Place(0)),
     };
     let mut p = Polyvalue::certain(5);
-    value_under(p, 63);
-    value_under(p, 64);
+    value_under(p, ASSIGNMENTS - 1);
+    value_under(p, ASSIGNMENTS);
     p.pairs[1] = done;
     p.count = 2;
     value_under(p, 0);

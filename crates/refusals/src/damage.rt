@@ -5,25 +5,28 @@ use crate::polyvalue::eight_values;
 use crate::polyvalue::two_values;
 use crate::print::answers;
 use book::Book;
+use book::DISTRICTS;
+use book::ITEMS;
 use book::Item;
 use book::Open;
 use book::Record;
+use conditions::PLACES;
 use conditions::TransactionNumber;
 use polyvalues::Polyvalue;
 
 // The book with another record of a district.
 fn with_record(b: Book, d: usize, r: Record) -> Book {
     let mut a = b;
-    if d < 8 {
+    if d < DISTRICTS {
         a.records[d] = r;
     }
     a
 }
 
 // The book with another item.
-pub fn with_item(b: Book, i: usize, x: Item) -> Book {
+pub(crate) fn with_item(b: Book, i: usize, x: Item) -> Book {
     let mut a = b;
-    if i < 32 {
+    if i < ITEMS {
         a.items[i] = x;
     }
     a
@@ -32,15 +35,15 @@ pub fn with_item(b: Book, i: usize, x: Item) -> Book {
 // The book with another transaction at a place.
 fn with_open(b: Book, q: usize, o: Open) -> Book {
     let mut a = b;
-    if q < 6 {
+    if q < PLACES {
         a.open[q] = o;
     }
     a
 }
 
 // The book with another held polyvalue of an item.
-pub fn with_held(b: Book, i: usize, p: Polyvalue) -> Book {
-    if 32 <= i {
+pub(crate) fn with_held(b: Book, i: usize, p: Polyvalue) -> Book {
+    if ITEMS <= i {
         return b;
     }
     let mut x = b.items[i];
@@ -49,8 +52,8 @@ pub fn with_held(b: Book, i: usize, p: Polyvalue) -> Book {
 }
 
 // The book with another pending polyvalue of an item.
-pub fn with_pending(b: Book, i: usize, p: Polyvalue) -> Book {
-    if 32 <= i {
+pub(crate) fn with_pending(b: Book, i: usize, p: Polyvalue) -> Book {
+    if ITEMS <= i {
         return b;
     }
     let mut x = b.items[i];
@@ -59,7 +62,7 @@ pub fn with_pending(b: Book, i: usize, p: Polyvalue) -> Book {
 }
 
 // "1 to 8 districts, 1 to 32 items"
-pub fn counts(b: Book) {
+pub(crate) fn counts(b: Book) {
     answers(b"sound", b);
     let mut a = b;
     a.districts = 0;
@@ -76,7 +79,7 @@ pub fn counts(b: Book) {
 // "Each item belongs to one district", "rows past the counts .. hold zeros", "nothing depends on a free
 // place", "in an idle district pending equals held; in a busy one neither depends on its own
 // transaction, and held and pending .. have at most 8 different values together"
-pub fn items(b: Book) {
+pub(crate) fn items(b: Book) {
     let mut x = b.items[0];
     x.district = 4;
     answers(b"item of no district", with_item(b, 0, x));
@@ -106,7 +109,7 @@ pub fn items(b: Book) {
 
 // "idle (0), computing (1) or waiting (2)", "rows past the counts .. hold zeros", "an idle record names
 // transaction 0", "a busy district is on an open transaction"
-pub fn records(b: Book) {
+pub(crate) fn records(b: Book) {
     let first = TransactionNumber(1);
     let not_open = TransactionNumber(9);
     let mut r = b.records[2];
@@ -126,7 +129,7 @@ pub fn records(b: Book) {
 // "free places hold zeros", "open numbers differ, are at least 1 and none exceeds the last given", "its
 // decision (0 none, 1 completed, 2 aborted)", "a decided open transaction has a district on it or a
 // polyvalue that depends on its place", "a completed transaction has every touched district ready"
-pub fn places(b: Book) {
+pub(crate) fn places(b: Book) {
     let first = TransactionNumber(1);
     let not_given = TransactionNumber(5);
     let mut o = b.open[5];
@@ -151,7 +154,7 @@ pub fn places(b: Book) {
 // Districts below the count in each set, "a busy district is on an open transaction that touches it;
 // waiting districts are in its ready set, computing ones in neither set; ready and gave-up sets are
 // apart and within touched"
-pub fn sets(b: Book) {
+pub(crate) fn sets(b: Book) {
     let mut o = b.open[2];
     o.touched = 17;
     answers(b"touched, no district", with_open(b, 2, o));

@@ -1,5 +1,6 @@
 // A sound book in the middle of a morning, which has something of everything.
 use book::Book;
+use book::ITEMS;
 use book::Opening;
 use book::Openings;
 use book::opened;
@@ -11,7 +12,7 @@ fn opening() -> Book {
         district: 0,
         value: 0,
     };
-    let mut items = [blank; 32];
+    let mut items = [blank; ITEMS];
     items[0] = Opening {
         district: 0,
         value: 5,
@@ -42,7 +43,7 @@ fn first() -> Book {
 }
 
 // T2 is computed in district 2 and T4 in district 3; district 0 gave up T3 before it was ready.
-pub fn book() -> Book {
+pub(crate) fn book() -> Book {
     let b = first().begin(b"\x02\x02\x00\x01").book;
     let b = b.begin(b"\x02\x00\x00\x00").book;
     let b = b.give_up(TransactionNumber(3), 0).book;

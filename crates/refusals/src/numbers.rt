@@ -16,7 +16,7 @@ fn begun_after(b: Book, last: u16, program: &[u8]) {
     print::begun(a, program);
 }
 
-pub fn last(b: Book) {
+pub(crate) fn last(b: Book) {
     begun_after(b, 65534, b"\x02\x00\x00\x01");
     begun_after(b, 65535, b"\x02\x00\x00\x01");
     begun_after(b, 65535, b"\x05\x00\x00\x01");

@@ -6,11 +6,12 @@ use crate::print::answers;
 use book::Book;
 use conditions::Condition;
 use conditions::Place;
+use polyvalues::PAIRS;
 use polyvalues::Pair;
 use polyvalues::Polyvalue;
 
 // 0 where the place completes, 3 where it aborts.
-pub fn two_values(place: usize) -> Polyvalue {
+pub(crate) fn two_values(place: usize) -> Polyvalue {
     Polyvalue::select(Place(place), Polyvalue::certain(0), Polyvalue::certain(3)).polyvalue
 }
 
@@ -20,7 +21,7 @@ fn either(place: usize, done: Polyvalue, gone: Polyvalue) -> Polyvalue {
 }
 
 // 0 to 7, under the places 0, 2 and 3.
-pub fn eight_values() -> Polyvalue {
+pub(crate) fn eight_values() -> Polyvalue {
     let low = either(
         2,
         either(0, Polyvalue::certain(0), Polyvalue::certain(1)),
@@ -37,13 +38,13 @@ pub fn eight_values() -> Polyvalue {
 // The polyvalue with another pair.
 fn with_pair(p: Polyvalue, i: usize, value: i16, condition: Condition) -> Polyvalue {
     let mut q = p;
-    if i < 8 {
+    if i < PAIRS {
         q.pairs[i] = Pair { value, condition };
     }
     q
 }
 
-pub fn damage(b: Book) {
+pub(crate) fn damage(b: Book) {
     let good = two_values(0);
     let done = Condition::completed(Place(0));
     let gone = done.complement();

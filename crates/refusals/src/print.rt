@@ -3,25 +3,25 @@ use book::Answer;
 use book::Book;
 use conditions::TransactionNumber;
 
-pub fn word(text: &[u8]) {
+pub(crate) fn word(text: &[u8]) {
     io::write_all(1, text);
 }
 
-pub fn number(n: u64) {
+pub(crate) fn number(n: u64) {
     io::write_all(1, b" ");
     io::print_decimal(1, n);
 }
 
-pub fn answer(a: Answer) {
+pub(crate) fn answer(a: Answer) {
     number(a.number() as u64);
 }
 
-pub fn line_end() {
+pub(crate) fn line_end() {
     io::write_all(1, b"\n");
 }
 
 // The answer of begin, and its number and grant.
-pub fn begun(b: Book, program: &[u8]) {
+pub(crate) fn begun(b: Book, program: &[u8]) {
     let r = b.begin(program);
     let given = r.answer;
     answer(given);
@@ -31,7 +31,7 @@ pub fn begun(b: Book, program: &[u8]) {
 }
 
 // The answers of the seven calls: begin, ready, give up, complete, abort, hear, show.
-pub fn answers(name: &[u8], b: Book) {
+pub(crate) fn answers(name: &[u8], b: Book) {
     word(name);
     let begun = b.begin(b"\x02\x00\x00\x00").answer;
     answer(begun);

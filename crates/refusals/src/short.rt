@@ -14,7 +14,7 @@ fn shown(b: Book, buf: &mut [u8]) {
 }
 
 // The line of item 0 has 12 bytes.
-pub fn buffers(b: Book) {
+pub(crate) fn buffers(b: Book) {
     let mut one = [b'.'; 1];
     shown(b, &mut one);
     let mut eleven = [b'.'; 11];
