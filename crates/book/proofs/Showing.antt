@@ -8,10 +8,11 @@ use lib.ListN.{length, List·getD-map}
 use borrow.Author.Tests.{lt-ltb, le-ltb}
 use Rattle.conditions.specs.declared.place.TransactionNumber.{TransactionNumber}
 use Rattle.conditions.specs.declared.text.Written.the-variants.{To, NoRoom}
-use Rattle.conditions.specs.Places.{places}
+use Rattle.conditions.specs.Places.{places as width}
 use Rattle.conditions.specs.Text.{numberAt}
 use Rattle.conditions.specs.Written.{room, answer, written}
 use Rattle.conditions.proofs.Laws.Below.{by-cases}
+use Rattle.polyvalues.specs.declared.polyvalue.Polyvalue.{Polyvalue}
 use Rattle.polyvalues.specs.Text.{lineText}
 use Rattle.polyvalues.specs.Polyvalues.{inUse}
 use Rattle.book.specs.declared.Answer.the-variants.{Accepted, NoItem, Unsound, ShortBuffer}
@@ -21,21 +22,16 @@ use Rattle.book.specs.declared.Shown.{Shown}
 use Rattle.book.specs.Answers.{firstOf}
 use Rattle.book.specs.Book.{noOpen, itemAt}
 use Rattle.book.specs.SoundTest.{sound}
-use Rattle.book.specs.Show.{tagNumber, heldLine, showAnswer, shown, show}
+use Rattle.book.specs.Show.{tagNumber, lineOf, heldLine, lineShown, showAnswer, shown, show}
 
 -- ---- the line
 
-pub line-is : (b : Book) (i : ℕ) {numbers : List TransactionNumber} → numbers ≡ map (λ o. o .number) (b .«open»)
-    → lineText places (numberAt numbers) (inUse (itemAt b i .held)) ≡ heldLine places b i
-unfolding heldLine
-line-is b i e =
-    let tags : numberAt (map (λ (o : Open). o .number) (b .«open»)) ≡ tagNumber b =
-    fun-ext (λ q. ap (λ (n : TransactionNumber). n .0) (List·getD-map (λ (o : Open). o .number) (b .«open») q noOpen)) in
-    ap (λ (n : ℕ → ℕ). lineText places n (inUse (itemAt b i .held))) (ap numberAt e ∙ tags)
-
--- what is answered of a line t, for a buffer l
-abbrev lineShown : List ℕ → List ℕ → Shown
-lineShown l t = cond (room l 0 t) (record { answer = Accepted; end = length t }) (record { answer = ShortBuffer; end = 0 })
+pub line-is : (p : Polyvalue) (places : List Open) {numbers : List TransactionNumber} → numbers ≡ map (λ o. o .number) places
+    → lineText width (numberAt numbers) (inUse p) ≡ lineOf width p places
+line-is p places e =
+    let tags : numberAt (map (λ (o : Open). o .number) places) ≡ tagNumber places =
+    fun-ext (λ q. ap (λ (n : TransactionNumber). n .0) (List·getD-map (λ (o : Open). o .number) places q noOpen)) in
+    ap (λ (n : ℕ → ℕ). lineText width n (inUse p)) (ap numberAt e ∙ tags)
 
 -- it was written, or there was too little room
 pub was-written : (l t : List ℕ) {end : ℕ} → To end ≡ answer l 0 t → record { answer = Accepted; end = end } ≡ lineShown l t
@@ -55,20 +51,20 @@ was-short l t e =
 -- ---- the answers
 
 module _ (b : Book) (i : ℕ) (l : List ℕ) where
-  pub unsound-shown : sound places b ≡ false → (record { answer = Unsound; end = 0 } ≡ show places b i l) × (l ≡ shown places b i l)
+  pub unsound-shown : sound width b ≡ false → (record { answer = Unsound; end = 0 } ≡ show width b i l) × (l ≡ shown width b i l)
   unfolding show showAnswer shown firstOf
   unsound-shown s = (rw s, rw s)
 
-  module _ (s : sound places b ≡ true) where
-    pub none-shown : b .count ≤ i → (record { answer = NoItem; end = 0 } ≡ show places b i l) × (l ≡ shown places b i l)
+  module _ (s : sound width b ≡ true) where
+    pub none-shown : b .count ≤ i → (record { answer = NoItem; end = 0 } ≡ show width b i l) × (l ≡ shown width b i l)
     unfolding show showAnswer shown firstOf
     none-shown h = let past = le-ltb i (b .count) h in (rw (s, past), rw (s, past))
 
-    pub item-shown : {r : Shown} {m : List ℕ} → i < b .count → r ≡ lineShown l (heldLine places b i) → m ≡ written l 0 (heldLine places b i)
-        → (r ≡ show places b i l) × (m ≡ shown places b i l)
+    pub item-shown : {r : Shown} {m : List ℕ} → i < b .count → r ≡ lineShown l (heldLine width b i) → m ≡ written l 0 (heldLine width b i)
+        → (r ≡ show width b i l) × (m ≡ shown width b i l)
     unfolding show showAnswer shown firstOf written
     item-shown h e f =
         let there = lt-ltb i (b .count) h in
-        by-cases (room l 0 (heldLine places b i))
+        by-cases (room l 0 (heldLine width b i))
         (λ k. (rw (s, there, k) (rw k at e), rw (s, there, k) (rw k at f)))
         (λ k. (rw (s, there, k) (rw k at e), rw (s, there, k) (rw k at f)))

@@ -1,14 +1,9 @@
 // Show: the line of an item's held pairs, written into a lent buffer.
 ghost use mathlib.Core.Path.{_≡_};
-ghost use mathlib.Core.Bool.{cond};
 ghost use mathlib.Core.List.{map};
-ghost use Prim.Native.Nat.{_<_};
-ghost use lib.ListN.{length};
 ghost use Rattle.conditions.specs.Places.{places as Places·places};
-ghost use Rattle.conditions.specs.Written.{room, written};
-ghost use Rattle.book.specs.declared.Answer.the-variants.{Accepted, ShortBuffer};
-ghost use Rattle.book.specs.Book.{mostItems};
-ghost use Rattle.book.specs.Show.{heldLine, shown, show};
+ghost use Rattle.conditions.specs.Written.{written};
+ghost use Rattle.book.specs.Show.{lineOf, lineShown, shown, show};
 use crate::Answer;
 use crate::Book;
 use crate::Open;
@@ -16,6 +11,7 @@ use crate::Shown;
 use conditions::PLACES;
 use conditions::TransactionNumber;
 use conditions::Written;
+use polyvalues::Polyvalue;
 
 // The number of the transaction at each place.
 fn numbers_at(places: [Open; PLACES]) -> [TransactionNumber; PLACES]
@@ -33,16 +29,13 @@ fn numbers_at(places: [Open; PLACES]) -> [TransactionNumber; PLACES]
     numbers
 }
 
-// Writes the line of an item that the book has a row for.
-fn write_held(b: Book, i: usize, buf: &mut [u8]) -> Shown
-    requires { ⌜ i < mostItems ⌝ }
-    ensures { λ r. ⌜ r ≡ cond (room (now (buf .entry)) 0 (heldLine Places·places b i)) (record { answer = Accepted; end = length (heldLine Places·places b i) }) (record { answer = ShortBuffer; end = 0 }) ⌝ }
-    ensures { λ r. ⌜ now (buf .exit) ≡ written (now (buf .entry)) 0 (heldLine Places·places b i) ⌝ }
+// Writes the line of a polyvalue, where these transactions are open.
+fn write_held(held: Polyvalue, open: [Open; PLACES], buf: &mut [u8]) -> Shown
+    ensures { λ r. ⌜ r ≡ lineShown (now (buf .entry)) (lineOf Places·places held «open») ⌝ }
+    ensures { λ r. ⌜ now (buf .exit) ≡ written (now (buf .entry)) 0 (lineOf Places·places held «open») ⌝ }
 {
-    let x = b.items[i];
-    let open = b.open;
     let numbers = numbers_at(open);
-    match x.held.write_text(numbers, buf, 0) {
+    match held.write_text(numbers, buf, 0) {
         Written::To(end) => Shown {
             answer: Answer::Accepted,
             end,
@@ -73,6 +66,9 @@ impl Book {
                 end: 0,
             };
         }
-        write_held(self, i, buf)
+        let x = self.items[i];
+        let held = x.held;
+        let open = self.open;
+        write_held(held, open, buf)
     }
 }

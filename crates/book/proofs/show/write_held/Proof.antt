@@ -2,17 +2,11 @@
 use mathlib.Core.Path.{sym, ap, _∙_}
 use Rattle.conditions.specs.Places.{places}
 use Rattle.conditions.specs.Written.{answer, written}
-use Rattle.book.specs.Show.{heldLine}
+use Rattle.book.specs.Show.{lineOf}
 use Rattle.book.proofs.Showing.{line-is, was-written, was-short}
 use borrow.Author.Needs.{needs}
 use Rattle.book.proofs.show.write_held.Statement.{statement}
 use Rattle.book.proofs.show.write_held.Tie as tie
-
-mul-x : tie.Need-mul-x
-mul-x c = search needs
-
-element-copy-out-x : tie.Need-element-copy-out-x
-element-copy-out-x c = search needs
 
 numbers-at-requires : tie.Need-numbers-at-requires
 numbers-at-requires c κs = search needs
@@ -31,27 +25,23 @@ same-length c = search needs
 
 returns : tie.Need-returns
 returns c =
-    let b = c .before .before .before .before .before .before .before .before .before .before .before .args .t1 in
-    let l = c .before .before .before .before .before .before .before .before .before .before .before .args .buf .now in
-    let line = line-is b (c .before .before .before .before .before .before .before .before .before .before .before .args .i) (c .before .before .before .before .before .before .before .numbers-at .ensures) in
-    (was-written l (heldLine places b (c .before .before .before .before .before .before .before .before .before .before .before .args .i)) (sym (c .before .end .given .1) ∙ c .before .before .before .before .before .write-text .ensures .0 ∙ ap (answer l 0) line), c .before .before .before .before .before .write-text .ensures .1 ∙ ap (written l 0) line)
+    let l = c .before .before .before .before .before .before .before .before .before .args .buf .now in
+    let line = line-is (c .before .before .before .before .before .before .before .before .before .args .held) (c .before .before .before .before .before .before .before .before .before .args .«open») (c .before .before .before .before .before .before .before .numbers-at .ensures) in
+    (was-written l (lineOf places (c .before .before .before .before .before .before .before .before .before .args .held) (c .before .before .before .before .before .before .before .before .before .args .«open»)) (sym (c .before .end .given .1) ∙ c .before .before .before .before .before .write-text .ensures .0 ∙ ap (answer l 0) line), c .before .before .before .before .before .write-text .ensures .1 ∙ ap (written l 0) line)
 
 same-length-2 : tie.Need-same-length-2
 same-length-2 c = search needs
 
 returns-2 : tie.Need-returns-2
 returns-2 c =
-    let b = c .before .before .before .before .before .before .before .before .before .before .args .t1 in
-    let l = c .before .before .before .before .before .before .before .before .before .before .args .buf .now in
-    let line = line-is b (c .before .before .before .before .before .before .before .before .before .before .args .i) (c .before .before .before .before .before .before .numbers-at .ensures) in
-    (was-short l (heldLine places b (c .before .before .before .before .before .before .before .before .before .before .args .i)) (sym (c .enum-told .given .1) ∙ c .before .before .before .before .write-text .ensures .0 ∙ ap (answer l 0) line), c .before .before .before .before .write-text .ensures .1 ∙ ap (written l 0) line)
+    let l = c .before .before .before .before .before .before .before .before .args .buf .now in
+    let line = line-is (c .before .before .before .before .before .before .before .before .args .held) (c .before .before .before .before .before .before .before .before .args .«open») (c .before .before .before .before .before .before .numbers-at .ensures) in
+    (was-short l (lineOf places (c .before .before .before .before .before .before .before .before .args .held) (c .before .before .before .before .before .before .before .before .args .«open»)) (sym (c .enum-told .given .1) ∙ c .before .before .before .before .write-text .ensures .0 ∙ ap (answer l 0) line), c .before .before .before .before .write-text .ensures .1 ∙ ap (written l 0) line)
 
 pub write-held-spec : {M : Type 1} → statement M
 write-held-spec =
     tie.close
     (tie.spec
-    mul-x
-    element-copy-out-x
     numbers-at-requires
     write-text-requires
     enum-known-end
