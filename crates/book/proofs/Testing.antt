@@ -1,26 +1,30 @@
 -- The tests of soundness, as the code makes them.
 use mathlib.Core.Path.{_≡_, refl, sym, ap, ap₂, _∙_}
-use mathlib.Core.Bool.{Bool, true, false, not, _&&_, cond}
+use mathlib.Core.Bool.{Bool, true, false, not, _&&_, cond, and-false}
 use mathlib.Core.List.{List}
 use Prim.Native.Nat.{ℕ, _≤_, _<_}
 use native.Mathlib.Omega.{arith}
 use borrow.Author.Tests.{le-leb, lt-ltb, le-ltb, leb-true, not-false}
-use lib.Dec.{leb}
+use lib.Dec.{eqb, leb, ltb}
 use lib.ListN.{getD}
 use lib.Seq.{take-all}
 use Rattle.polyvalues.specs.declared.polyvalue.Polyvalue.{Polyvalue}
 use Rattle.polyvalues.specs.Polyvalues.{room, inUse}
-use Rattle.polyvalues.specs.Operations.{same}
+use Rattle.polyvalues.specs.Polyvalues.{sound as soundPolyvalue}
+use Rattle.polyvalues.specs.Operations.{same, together}
+use Rattle.polyvalues.proofs.Laws.Packed.{sound-well-formed}
 use Rattle.polyvalues.proofs.Known.{Held, pairs-long}
 use Rattle.conditions.specs.Below.{first}
 use Rattle.conditions.specs.Places.{places}
-use Rattle.conditions.proofs.Laws.Below.{and-left, and-right}
+use Rattle.conditions.proofs.Laws.Below.{and-left, and-right, by-cases}
 use Rattle.book.specs.declared.Record.{Record}
 use Rattle.book.specs.declared.Item.{Item}
 use Rattle.book.specs.declared.Open.{Open}
 use Rattle.book.specs.declared.Book.{Book}
-use Rattle.book.specs.Book.{mostDistricts, mostItems, lastNumber, noRecord, noItem, noOpen, recordOn, itemAt, itemOn, named, placeOf}
-use Rattle.book.specs.SoundTest.{implies, sameItem, soundPending, soundRow, soundItem}
+use Rattle.book.specs.Book.{mostDistricts, mostItems, lastNumber, noRecord, noItem, noOpen, recordOn, itemAt, itemOn, named, placeOf, itemDepends}
+use Rattle.book.specs.SoundTest.{implies, samePolyvalue, sameItem, soundPending, soundRow, soundItem}
+use Rattle.book.proofs.Laws.Same.{same-polyvalue}
+use Rattle.book.proofs.Laws.Room.{together-self}
 
 -- ---- all rows
 
@@ -54,12 +58,33 @@ at-cases false false true x = refl
 at-cases false false false true = refl
 at-cases false false false false = refl
 
--- ---- the pending polyvalue of an item, beside the transaction that it is on
+-- ---- an item, beside the transaction that its district is on
 
-pub pending-in : (b : Book) (x : Item) {rs : List Record} {n : ℕ} {r : Bool} → b .records ≡ rs → n ≡ recordOn (getD rs (x .district) noRecord)
-    → r ≡ soundPending places b n x → soundPending places b (itemOn b x) x ≡ r
+pub item-on : (b : Book) (x : Item) {rs : List Record} {n : ℕ} → b .records ≡ rs → n ≡ recordOn (getD rs (x .district) noRecord) → itemOn b x ≡ n
 unfolding itemOn
-pending-in b x e f g = sym (g ∙ ap (λ (n : ℕ). soundPending places b n x) (f ∙ ap (λ (l : List Record). recordOn (getD l (x .district) noRecord)) (sym e)))
+item-on b x e f = sym (f ∙ ap (λ (l : List Record). recordOn (getD l (x .district) noRecord)) (sym e))
+
+-- on none: pending equals held, so that held tells of both
+pub row-idle : (w : ℕ) (b : Book) (x : Item) → ltb (x .district) (b .districts) ≡ true → itemOn b x ≡ 0
+    → soundRow w b x ≡ (soundPolyvalue w (x .held) && samePolyvalue (x .pending) (x .held))
+unfolding soundRow soundPending
+row-idle w b x l e =
+    by-cases (soundPolyvalue w (x .held))
+    (λ s. by-cases (samePolyvalue (x .pending) (x .held))
+    (λ t.
+    let same : x .pending ≡ x .held = same-polyvalue (x .pending) (x .held) t in
+    let few : leb (together (inUse (x .held)) (inUse (x .held))) room ≡ true = le-leb _ _ (together-self w (inUse (x .held)) (sound-well-formed w (x .held) s)) in
+    rw (l, e, s, t, ap (soundPolyvalue w) same ∙ s, ap (λ (p : Polyvalue). leb (together (inUse (x .held)) (inUse p)) room) same ∙ few))
+    (λ t. rw (l, e, s, t, and-false)))
+    (λ s. rw (l, s))
+
+-- on one
+pub row-taken : (w : ℕ) (b : Book) (x : Item) → ltb (x .district) (b .districts) ≡ true → eqb (itemOn b x) 0 ≡ false
+    → soundRow w b x
+    ≡ (soundPolyvalue w (x .held) && soundPolyvalue w (x .pending) && not (itemDepends w x (placeOf w b (itemOn b x)))
+    && leb (together (inUse (x .held)) (inUse (x .pending))) room)
+unfolding soundRow soundPending
+row-taken w b x l e = rw (l, e)
 
 -- ---- every number that fits is one that may be given
 

@@ -7,8 +7,18 @@ ghost use lib.ListN.{getD};
 ghost use Rattle.conditions.specs.Below.{all};
 ghost use Rattle.conditions.specs.Sets.{member};
 ghost use Rattle.conditions.specs.Places.{places as Places·places};
+ghost use Rattle.polyvalues.specs.Polyvalues.{room, inUse};
+ghost use Rattle.polyvalues.specs.Polyvalues.{sound as soundPolyvalue};
+ghost use Rattle.polyvalues.specs.Operations.{together};
 ghost use Rattle.book.specs.declared.Book.{Book};
-ghost use Rattle.book.specs.Book.{mostDistricts, mostItems, noItem, noOpen};
+ghost use Rattle.book.specs.Book.{
+  mostDistricts,
+  mostItems,
+  noItem,
+  noOpen,
+  placeOf,
+  itemDepends,
+};
 ghost use Rattle.book.specs.Forget.{decided, needed};
 ghost use Rattle.book.specs.Tables.{TablesOf};
 ghost use Rattle.book.specs.SoundTest.{
@@ -20,7 +30,6 @@ ghost use Rattle.book.specs.SoundTest.{
   soundBusy,
   soundRecord,
   soundDistrict,
-  soundPending,
   soundRow,
   soundAt,
   soundOpen,
@@ -173,16 +182,33 @@ fn sound_districts(t: Tables) -> bool
     true
 }
 
-// Whether pending equals held, where the item is on no transaction (0), or neither depends on its
-// own, number n.
-fn sound_pending(places: [Open; PLACES], n: u16, x: Item) -> bool
-    ensures { λ r. ⌜ ((b : Book) → b .«open» ≡ places → r ≡ soundPending Places·places b n x) ⌝ }
+// Whether an item of an idle district is sound: pending equals held, and so one look at held tells of
+// both.
+fn sound_idle(x: Item) -> bool
+    ensures { λ r. ⌜ r ≡ (soundPolyvalue Places·places (x .held) && samePolyvalue (x .pending) (x .held)) ⌝ }
 {
-    if n == 0 {
-        return same_polyvalue(x.pending, x.held);
+    if !x.held.is_sound() {
+        return false;
+    }
+    same_polyvalue(x.pending, x.held)
+}
+
+// Whether an item of a district that is on the transaction number n is sound: neither polyvalue
+// depends on that transaction.
+fn sound_taken(places: [Open; PLACES], n: u16, x: Item) -> bool
+    ensures { λ r. ⌜ ((b : Book) → b .«open» ≡ places → r ≡ (soundPolyvalue Places·places (x .held) && soundPolyvalue Places·places (x .pending) && not (itemDepends Places·places x (placeOf Places·places b n)) && leb (together (inUse (x .held)) (inUse (x .pending))) room)) ⌝ }
+{
+    if !x.held.is_sound() {
+        return false;
+    }
+    if !x.pending.is_sound() {
+        return false;
     }
     let q = place_of(places, TransactionNumber(n));
-    !item_depends(x, Place(q))
+    if item_depends(x, Place(q)) {
+        return false;
+    }
+    x.held.together(x.pending) <= PAIRS
 }
 
 // Whether an item below the count is sound.
@@ -198,17 +224,11 @@ fn sound_row(
     if districts <= district as usize {
         return false;
     }
-    if !x.held.is_sound() {
-        return false;
-    }
-    if !x.pending.is_sound() {
-        return false;
-    }
     let n = district_on(records, district);
-    if !sound_pending(places, n, x) {
-        return false;
+    if n == 0 {
+        return sound_idle(x);
     }
-    x.held.together(x.pending) <= PAIRS
+    sound_taken(places, n, x)
 }
 
 // Whether ready and gave-up are apart and within touched, and a completed transaction has the
