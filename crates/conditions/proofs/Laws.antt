@@ -4,4 +4,5 @@ pub mod Sets
 pub mod Places
 pub mod Conditions
 pub mod Products
+pub mod Halves
 pub mod Text

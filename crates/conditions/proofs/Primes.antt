@@ -8,7 +8,6 @@ use native.Mathlib.Decide.{decLt}
 use lib.Bits.{bitAnd, and-le-l}
 use lib.Dec.{eqb}
 use lib.Pow.{pow-pos}
-use borrow.Author.Count.{below-more}
 use borrow.Author.Tests.{eq-eqb, ne-eqb, eqb-true, not-false}
 use Rattle.conditions.specs.Below.{all, first}
 use Rattle.conditions.specs.Sets.{member}
@@ -68,10 +67,16 @@ all-needed w p c e f = sym (ap₂ _&&_ e f)
 
 -- ---- the next prime product
 
-pub none-more : (w c from p : ℕ) → from ≤ p → NonePrime w c from p → prime w p c ≡ false → NonePrime w c from (p + 1)
-none-more w c from p h none e j l =
-    let end : from + (p - from) ≡ p = omega arith in
-    below-more (λ j. prime w (from + j) c ≡ false) (p - from) none (ap (λ (q : ℕ). prime w q c) end ∙ e) j (omega arith)
+pub none-one : (w c p : ℕ) → prime w p c ≡ false → NonePrime w c p (p + 1)
+none-one w c p e j l = let at : p + j ≡ p = omega arith in ap (λ (q : ℕ). prime w q c) at ∙ e
+
+-- none before p and none of the r from p on, up to any end among them
+pub none-on : (w c from p r end : ℕ) → from ≤ p → NonePrime w c from p → NonePrime w c p (p + r) → end ≤ p + r → NonePrime w c from end
+none-on w c from p r end h none more k j l = pick (decLt j (p - from))
+  where
+    pick : Dec (j < p - from) → prime w (from + j) c ≡ false
+    pick (yes b) = none j b
+    pick (no b) = let at : from + j ≡ p + (from + j - p) = omega arith in ap (λ (q : ℕ). prime w q c) at ∙ more (from + j - p) (omega arith)
 
 pub is-next : (w c from limit p : ℕ) → from ≤ p → p - from ≤ limit - from → NonePrime w c from p → (p < limit → prime w p c ≡ true)
     → p ≡ primeFrom w c from limit

@@ -1,12 +1,22 @@
 // Products of tags: a digit to the base 3 for each place, 0 where it is absent, 1 where it is to be
 // completed, 2 where it is to be aborted.
 ghost use mathlib.Core.Path.{_≡_};
-ghost use mathlib.Core.Bool.{false, _&&_};
-ghost use Prim.Native.Nat.{ℕ, _<_, _≤_, _^_};
+ghost use mathlib.Core.Bool.{true, false, _&&_};
+ghost use Prim.Native.Nat.{ℕ, suc, _+_, _<_, _≤_, _^_};
 ghost use Rattle.conditions.specs.Sets.{member, setOf};
 ghost use Rattle.conditions.specs.Places.{places};
 ghost use Rattle.conditions.specs.Conditions.{number, dependsOn};
-ghost use Rattle.conditions.specs.Products.{tagAt, agrees, allowed, within, needed, prime, primeFrom, nextPrime};
+ghost use Rattle.conditions.specs.Products.{
+  tagAt,
+  agrees,
+  allowed,
+  within,
+  needed,
+  prime,
+  NonePrime,
+  primeFrom,
+  nextPrime,
+};
 use crate::condition::Condition;
 use crate::place::PLACES;
 use crate::place::Place;
@@ -124,16 +134,81 @@ impl Condition {
     }
 }
 
+// What a set of assignments to i + 1 places leaves to the first i of them, where the last one is as
+// its tag asks: the high half of the bits, the low half, or what is in both.
+fn narrowed(set: u64, i: usize, tag: usize) -> u64
+    requires { ⌜ i < places ⌝ }
+    ensures { λ r. ⌜ ((q : ℕ) → tagAt q i ≡ tag → within i q r ≡ within (suc i) q set) ⌝ }
+{
+    let bits = 1u64 << i;
+    let done = set >> bits;
+    let mask = (1u64 << bits) - 1;
+    let gone = set & mask;
+    if tag == 0 {
+        return done & gone;
+    }
+    if tag == 1 {
+        return done;
+    }
+    gone
+}
+
+// Whether it is plain that no product with this tag is within the set and needs the tag.
+fn is_barren(set: u64, i: usize, tag: usize) -> bool
+    requires { ⌜ i < places ⌝ }
+    ensures { λ r. ⌜ (r ≡ true → (q : ℕ) → tagAt q i ≡ tag → (within (suc i) q set && needed (suc i) q set i) ≡ false) ⌝ }
+{
+    let with = narrowed(set, i, tag);
+    if with == 0 {
+        return true;
+    }
+    if tag == 0 {
+        return false;
+    }
+    let without = narrowed(set, i, 0);
+    with == without
+}
+
+// How many products from p on are not prime, as far as the tags of p tell from the highest place
+// down; 0 only where p is prime.
+fn barren_from(c: Condition, p: usize) -> usize
+    ensures { λ r. ⌜ NonePrime places (number c) p (p + r) ⌝ }
+    ensures { λ r. ⌜ (r ≡ 0 → prime places p (number c) ≡ true) ⌝ }
+{
+    let mut set = c.0;
+    let mut rest = p % Product::COUNT;
+    let mut scale = Product::COUNT;
+    let mut i: usize = PLACES;
+    while 0 < i {
+        i -= 1;
+        scale /= 3;
+        let tag = rest / scale;
+        rest %= scale;
+        if is_barren(set, i, tag) {
+            return scale - rest;
+        }
+        set = narrowed(set, i, tag);
+    }
+    if Product(p).is_prime(c) {
+        return 0;
+    }
+    1
+}
+
 // The lowest number from one on and below a limit whose product is prime, or the limit.
 pub(crate) fn prime_from(c: Condition, from: usize, limit: usize) -> usize
     ensures { λ r. ⌜ r ≡ primeFrom places (number c) from limit ⌝ }
 {
     let mut p = from;
     while p < limit {
-        if Product(p).is_prime(c) {
+        let barren = barren_from(c, p);
+        if barren == 0 {
             return p;
         }
-        p += 1;
+        if limit - p <= barren {
+            return limit;
+        }
+        p += barren;
     }
     p
 }

@@ -1,7 +1,8 @@
 -- Each, any, the lowest, and all by rising number, over the numbers below k.
 use mathlib.Core.Path.{_≡_, refl, sym, ap, ap₂, _∙_}
-use mathlib.Core.Bool.{Bool, true, false, _&&_, _||_, cond, true≢false, false≢true}
-use Prim.Native.Nat.{ℕ, zero, suc, _≤_, _<_}
+use mathlib.Core.Bool.{Bool, true, false, _&&_, _||_, cond, and-true, and-assoc, true≢false, false≢true}
+use Prim.Native.Nat.{ℕ, zero, suc, _+_, _≤_, _<_}
+use native.Mathlib.Nat.{add-zero, add-suc}
 use native.Mathlib.Omega.{arith}
 use borrow.Author.Count.{below-more}
 use Rattle.conditions.specs.Below.{all, any, first}
@@ -52,6 +53,24 @@ all-fails k f i h e = by-cases (all k f) (λ t. absurd (true≢false (sym (all-a
 pub all-more : (k : ℕ) (f : ℕ → Bool) → all k f ≡ true → f k ≡ true → all (suc k) f ≡ true
 unfolding all
 all-more k f e g = ap₂ _&&_ e g
+
+-- of two runs of numbers, and of two tests
+pub all-plus : (k m : ℕ) (f : ℕ → Bool) → all (k + m) f ≡ (all k f && all m (λ n. f (k + n)))
+unfolding all
+all-plus k zero f = ap (λ (n : ℕ). all n f) (add-zero k) ∙ sym (and-true (all k f))
+all-plus k (suc m) f =
+    ap (λ (n : ℕ). all n f) (add-suc k m) ∙ ap (λ (x : Bool). x && f (k + m)) (all-plus k m f) ∙ and-assoc (all k f) (all m (λ n. f (k + n))) (f (k + m))
+
+pub all-both : (k : ℕ) (f g : ℕ → Bool) → all k (λ n. f n && g n) ≡ (all k f && all k g)
+unfolding all
+all-both zero f g = refl
+all-both (suc k) f g = ap (λ (x : Bool). x && (f k && g k)) (all-both k f g) ∙ swap (all k f) (all k g) (f k) (g k)
+  where
+    swap : (a b c d : Bool) → (a && b && (c && d)) ≡ (a && c && (b && d))
+    swap false b c d = refl
+    swap true true c d = refl
+    swap true false true d = refl
+    swap true false false d = refl
 
 -- where it fails, one fails
 pub all-not : (k : ℕ) (f : ℕ → Bool) → all k f ≡ false → (i : ℕ) × (i < k) × (f i ≡ false)

@@ -19,9 +19,6 @@ use Rattle.conditions.proofs.Laws.Places.{place-lt, place-past, place-s
 pub of-number : (c : Condition) → ofNumber (number c) ≡ c
 of-number c = refl
 
-pub number-of : (n : ℕ) → n < 2 ^ 2 ^ places → number (ofNumber n) ≡ n
-number-of n h = refl
-
 -- the associated constant is the full set
 pub always-full : number always ≡ full places
 unfolding full setOf
@@ -70,10 +67,6 @@ union-lt w c d = setOf-lt (2 ^ w) (λ a. member c a || member d a)
 pub intersection-lt : (w c d : ℕ) → intersection w c d < 2 ^ 2 ^ w
 unfolding intersection
 intersection-lt w c d = setOf-lt (2 ^ w) (λ a. member c a && member d a)
-
-pub complement-lt : (w c : ℕ) → complement w c < 2 ^ 2 ^ w
-unfolding complement
-complement-lt w c = setOf-lt (2 ^ w) (λ a. not (member c a))
 
 pub completed-lt : (w i : ℕ) → completed w i < 2 ^ 2 ^ w
 unfolding completed

@@ -89,7 +89,8 @@ up-lt zero a i h l e = absurd (omega arith)
 up-lt (suc w) a zero h l e = let even : a % 2 ≡ 0 = last a e in omega arith
 up-lt (suc w) a (suc i) h l e = let r : 2 ^ i + a / 2 < 2 ^ w = up-lt w (a / 2) i (omega arith) (omega arith) (even a i e) in omega arith
 
-up-other : (a i j : ℕ) → member a i ≡ false → (j ≡ i → ⊥) → member (2 ^ i + a) j ≡ member a j
+-- and every other place stays
+pub up-other : (a i j : ℕ) → member a i ≡ false → (j ≡ i → ⊥) → member (2 ^ i + a) j ≡ member a j
 up-other a zero zero e apart = absurd (apart refl)
 up-other a zero (suc j) e apart =
     let even : a % 2 ≡ 0 = last a e in

@@ -107,11 +107,21 @@ pub allows-of : (w p a : ℕ) → ((i : ℕ) → i < w → agrees (tagAt p i) (m
 unfolding allows
 allows-of w p a f = all-of w (λ i. agrees (tagAt p i) (member a i)) f
 
+-- only the tags of the w places count
+allows-tags : (w p q a : ℕ) → ((i : ℕ) → i < w → tagAt p i ≡ tagAt q i) → allows w p a ≡ allows w q a
+unfolding allows
+allows-tags w p q a same =
+    all-same w (λ i. agrees (tagAt p i) (member a i)) (λ i. agrees (tagAt q i) (member a i)) (λ i l. ap (λ (d : ℕ). agrees d (member a i)) (same i l))
+
+pub within-tags : (w p q c : ℕ) → ((i : ℕ) → i < w → tagAt p i ≡ tagAt q i) → within w p c ≡ within w q c
+unfolding within
+within-tags w p q c same =
+    all-same (2 ^ w) (λ a. not (allows w p a) || member c a) (λ a. not (allows w q a) || member c a)
+    (λ a h. ap (λ (x : Bool). not x || member c a) (allows-tags w p q a same))
+
 pub allowed-mod : (w p : ℕ) → allowed w (p % 3 ^ w) ≡ allowed w p
-unfolding allowed allows
-allowed-mod w p =
-    setOf-same (2 ^ w) (allows w (p % 3 ^ w)) (allows w p)
-    (λ a h. all-same w (λ i. agrees (tagAt (p % 3 ^ w) i) (member a i)) (λ i. agrees (tagAt p i) (member a i)) (λ i l. ap (λ (d : ℕ). agrees d (member a i)) (tag-mod w p i l)))
+unfolding allowed
+allowed-mod w p = setOf-same (2 ^ w) (allows w (p % 3 ^ w)) (allows w p) (λ a h. allows-tags w (p % 3 ^ w) p a (tag-mod w p))
 
 pub member-allowed : (w p a : ℕ) → a < 2 ^ w → member (allowed w p) a ≡ allows w p a
 unfolding allowed
