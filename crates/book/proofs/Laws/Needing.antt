@@ -1,4 +1,5 @@
--- What was needed stays needed where nobody leaves a transaction and no item comes to depend on fewer places: ready and begin forget nothing.
+-- What was needed stays needed where nobody leaves a transaction and no item comes to depend on fewer places: ready and begin forget nothing,
+-- and a decision at most its own transaction.
 use mathlib.Core.Path.{_≡_, refl, sym, _∙_, ap}
 use mathlib.Core.Bool.{Bool, true, false, not, _||_, cond, false≢true, or-true}
 use mathlib.Core.List.{List}
@@ -6,8 +7,8 @@ use Prim.Native.Nat.{ℕ, suc, _≤_, _<_}
 use native.Mathlib.Omega.{arith}
 use lib.Dec.{eqb}
 use lib.ListN.{length, getD, set, List·getD-map}
-use lib.Seq.{map-set-same}
-use borrow.Author.Tests.{eqb-true, eqb-false, not-true}
+use lib.Seq.{map-set-same, set-set}
+use borrow.Author.Tests.{eqb-true, eqb-false, ne-eqb, not-true}
 use Rattle.conditions.specs.Below.{any}
 use Rattle.conditions.proofs.Laws.Below.{by-cases, any-of, any-some}
 use Rattle.polyvalues.specs.declared.polyvalue.Polyvalue.{Polyvalue}
@@ -17,19 +18,20 @@ use Rattle.book.specs.declared.Item.{Item}
 use Rattle.book.specs.declared.Open.{Open}
 use Rattle.book.specs.declared.Step.{Step}
 use Rattle.book.specs.declared.Book.{Book}
-use Rattle.book.specs.Book.{mostDistricts, mostItems, noRecord, noOpen, voidItem, recordAt, itemAt, openAt, recordOn, placeOf, freePlace, itemDepends, someDepends, someOn}
+use Rattle.book.specs.Book.{mostDistricts, mostItems, noRecord, noOpen, voidItem, recordAt, itemAt, openAt, recordOn, placeOf, freePlace, itemDepends, someDepends, someOn, withOpen}
 use Rattle.book.specs.Programs.{touches}
 use Rattle.book.specs.Records.{computingOn, beginRecord, readyRecord}
 use Rattle.book.specs.Transactions.{openOf}
-use Rattle.book.specs.Forget.{decided, needed, forget}
+use Rattle.book.specs.Forget.{decided, needed, remembered, forget}
 use Rattle.book.specs.Ready.{reported, readied}
+use Rattle.book.specs.Decide.{withDecision, decide}
 use Rattle.book.specs.Begin.{someBusy, touchesDistrict, beginItem, begun}
 use Rattle.book.specs.Sound.{Sound}
-use Rattle.book.proofs.Laws.Rows.{getD-rows}
+use Rattle.book.proofs.Laws.Rows.{getD-rows, rows-set}
 use Rattle.book.proofs.Laws.Touched.{touched-item-idle, touched-idle}
 use Rattle.book.proofs.Laws.Shaped.{getD-set}
 use Rattle.book.proofs.Laws.But.{computing-on, busy-on}
-use Rattle.book.proofs.Laws.Forget.{forget-none, decided-open, decided-needed}
+use Rattle.book.proofs.Laws.Forget.{remembered-stays, forget-none, decided-open, decided-needed}
 
 -- one row is set: what is the same of it is the same of every row
 set-alike : {A B : Type 0} (f : A → B) (xs : List A) (i : ℕ) (y z : A) → f y ≡ f (getD xs i z) → (j : ℕ) → f (getD (set xs i y) j z) ≡ f (getD xs j z)
@@ -121,3 +123,27 @@ module _ (w : ℕ) (b : Book) (xs : List Step) (s : Sound w b) (idles : someBusy
       let n : ℕ = openAt b q .number .0 in
       let given : 1 ≤ n = omega (arith, eqb-false n 0 (not-true _ (decided-open w b s q l was))) in
       rw (old q e) (or-still (someOn b n) (someDepends w b q) (someOn c n) (someDepends w c q) (on n given) (dependsStill q) (decided-needed w b s q l was)))
+
+-- ---- decide
+
+module _ (w : ℕ) (b : Book) (n v : ℕ) (s : Sound w b) (place : placeOf w b n < w) (decides : 1 ≤ v) where
+  -- every other transaction stays, as it was needed or is not decided
+  decide-forgets-own : forget w (decide w b n v) ≡ withOpen b (set (b .«open») (placeOf w b n) (remembered w b (placeOf w b n) (withDecision v (openOf w b n))))
+  unfolding forget decide remembered needed someOn someDepends
+  decide-forgets-own =
+      ap (withOpen b) (rows-set (remembered w b) noOpen w (b .«open») (placeOf w b n) (withDecision v (openOf w b n)) place
+      (λ q l. remembered-stays w b q (openAt b q) (decided-needed w b s q l)))
+
+  -- it stays itself where it is needed
+  pub decide-keeps : {q : ℕ} → q ≡ placeOf w b n → needed w b q (openAt b q) ≡ true → withOpen b (set (b .«open») q (withDecision v (openAt b q))) ≡ forget w (decide w b n v)
+  unfolding needed
+  decide-keeps e k =
+      let kept : remembered w b (placeOf w b n) (withDecision v (openOf w b n)) ≡ withDecision v (openOf w b n) = remembered-stays w b (placeOf w b n) (withDecision v (openOf w b n)) (λ d. rw e at k) in
+      rw e (sym (decide-forgets-own ∙ ap (λ (o : Open). withOpen b (set (b .«open») (placeOf w b n) o)) kept))
+
+  -- and is closed, though the decision was noted, where it is not
+  pub decide-frees : (o : Open) {q : ℕ} → q ≡ placeOf w b n → needed w b q (openAt b q) ≡ false → withOpen b (set (set (b .«open») q o) q noOpen) ≡ forget w (decide w b n v)
+  unfolding remembered needed
+  decide-frees o {q} e k =
+      let freed : remembered w b (placeOf w b n) (withDecision v (openOf w b n)) ≡ noOpen = rw (ne-eqb v 0 (λ z. omega arith), rw e at k) in
+      rw (set-set (b .«open») q o noOpen, e) (sym (decide-forgets-own ∙ ap (λ (o : Open). withOpen b (set (b .«open») (placeOf w b n) o)) freed))
