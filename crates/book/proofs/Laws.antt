@@ -16,6 +16,7 @@ pub mod Values
 pub mod Room
 pub mod But
 pub mod Forgetting
+pub mod Needing
 pub mod Including
 pub mod Changing
 pub mod Settling

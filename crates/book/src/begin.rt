@@ -11,7 +11,7 @@ ghost use Rattle.book.specs.Items.{becomes};
 ghost use Rattle.book.specs.States.{stepsOf};
 ghost use Rattle.book.specs.Programs.{steps};
 ghost use Rattle.book.specs.Alternatives.{WorkedOut};
-ghost use Rattle.book.specs.Begin.{badProgram, someStep, outside, tooMany, beginItem, begun, begins, begin};
+ghost use Rattle.book.specs.Begin.{badProgram, someStep, outside, someBusy, tooMany, beginItem, begun, begins, begin};
 ghost use Rattle.book.specs.SoundTest.{sound};
 use crate::Answer;
 use crate::Begun;
@@ -21,7 +21,6 @@ use crate::Open;
 use crate::alternatives::Worked;
 use crate::alternatives::too_many;
 use crate::alternatives::worked_out;
-use crate::forget::forget;
 use crate::program::Program;
 use crate::program::bad_program;
 use crate::program::read;
@@ -107,9 +106,10 @@ fn refused(b: Book, answer: Answer) -> Begun
     }
 }
 
-// Accepted: the next number, the grant, and the book that the program leaves.
+// Accepted: the next number, the grant, and the book that the program leaves. The touched districts were
+// on no transaction and the others stay on theirs, so there is nothing to forget.
 fn accepted(b: Book, p: Program, w: Worked, q: usize) -> Begun
-    requires { ⌜ (b .districts ≤ mostDistricts) × (b .count ≤ mostItems) × (b .last .0 < lastNumber) ⌝ }
+    requires { ⌜ (sound places b ≡ true) × (someBusy b (stepsOf p) ≡ false) × (b .last .0 < lastNumber) ⌝ }
     requires { ⌜ (q ≡ freePlace places b) × (q < places) ⌝ }
     requires { ⌜ WorkedOut places b (stepsOf p) w ⌝ }
     ensures { λ r. ⌜ r ≡ begins places Accepted b (stepsOf p) ⌝ }
@@ -121,13 +121,13 @@ fn accepted(b: Book, p: Program, w: Worked, q: usize) -> Begun
         answer: Answer::Accepted,
         number,
         grant,
-        book: forget(after),
+        book: after,
     }
 }
 
 // Begin of a program that has a number and a place: only its values may be too many.
 fn begin_at(b: Book, p: Program, q: usize) -> Begun
-    requires { ⌜ sound places b ≡ true ⌝ }
+    requires { ⌜ (sound places b ≡ true) × (someBusy b (stepsOf p) ≡ false) ⌝ }
     requires { ⌜ someStep (outside (b .count)) (stepsOf p) ≡ false ⌝ }
     requires { ⌜ (q ≡ freePlace places b) × (q < places) × (b .last .0 < lastNumber) ⌝ }
     ensures { λ r. ⌜ r ≡ begins places (cond (tooMany places b (stepsOf p)) TooManyValues Accepted) b (stepsOf p) ⌝ }

@@ -1,20 +1,24 @@
 // Complete and abort: the decision of a transaction.
 ghost use mathlib.Core.Path.{_≡_};
-ghost use mathlib.Core.Bool.{not, _&&_};
+ghost use mathlib.Core.Bool.{true, not, _&&_};
 ghost use Prim.Native.Nat.{ℕ, _<_, _≤_};
 ghost use Rattle.conditions.specs.Below.{any};
 ghost use Rattle.conditions.specs.Sets.{member};
 ghost use Rattle.conditions.specs.Places.{places};
 ghost use Rattle.book.specs.Book.{mostDistricts, placeOf};
+ghost use Rattle.book.specs.Forget.{forget};
 ghost use Rattle.book.specs.Decide.{decide, complete, abort};
+ghost use Rattle.book.specs.SoundTest.{sound};
 use crate::Answer;
 use crate::Book;
 use crate::Done;
 use crate::Open;
-use crate::forget::forget;
 use crate::sets::has;
+use crate::tables::item_depends;
 use crate::tables::place_of;
+use crate::tables::some_on;
 use conditions::PLACES;
+use conditions::Place;
 use conditions::TransactionNumber;
 
 // Whether the district is touched and has not reported ready.
@@ -42,14 +46,36 @@ fn some_awaited(o: Open, districts: usize) -> bool
     false
 }
 
-// The transaction at the place has the decision.
+// The transaction at the place has the decision, and is closed where no district is on it and no item
+// depends on it: nothing else can be forgotten.
 fn decided(mut b: Book, q: usize, decision: u8) -> Book
-    requires { ⌜ q < places ⌝ }
-    ensures { λ r. ⌜ ((n : ℕ) → q ≡ placeOf places b n → r ≡ decide places b n decision) ⌝ }
+    requires { ⌜ (sound places b ≡ true) × (q < places) × (1 ≤ decision) ⌝ }
+    ensures { λ r. ⌜ ((n : ℕ) → q ≡ placeOf places b n → r ≡ forget places (decide places b n decision)) ⌝ }
 {
     let mut o = b.open[q];
     o.decision = decision;
     b.open[q] = o;
+    let records = b.records;
+    if some_on(records, b.districts, o.number.0) {
+        return b;
+    }
+    let count = b.count;
+    let mut i: usize = 0;
+    while i < count {
+        let x = b.items[i];
+        if item_depends(x, Place(q)) {
+            return b;
+        }
+        i += 1;
+    }
+    let closed = Open {
+        number: TransactionNumber(0),
+        touched: 0,
+        ready: 0,
+        gave: 0,
+        decision: 0,
+    };
+    b.open[q] = closed;
     b
 }
 
@@ -87,7 +113,7 @@ impl Book {
         let after = decided(self, q, 1);
         Done {
             answer: Answer::Accepted,
-            book: forget(after),
+            book: after,
         }
     }
 
@@ -118,7 +144,7 @@ impl Book {
         let after = decided(self, q, 2);
         Done {
             answer: Answer::Accepted,
-            book: forget(after),
+            book: after,
         }
     }
 }

@@ -1,4 +1,5 @@
-// Ready: a computing district waits for the decision.
+// Ready: a computing district waits for the decision. It stays on its transaction, so there is nothing to
+// forget.
 ghost use mathlib.Core.Path.{_≡_};
 ghost use Prim.Native.Nat.{ℕ, _<_};
 ghost use Rattle.conditions.specs.Places.{places};
@@ -8,7 +9,6 @@ use crate::Answer;
 use crate::Book;
 use crate::Done;
 use crate::Open;
-use crate::forget::forget;
 use crate::records::computing_on;
 use crate::records::readied as readied_record;
 use crate::sets::including;
@@ -76,7 +76,7 @@ impl Book {
         let after = readied(self, q, i);
         Done {
             answer: Answer::Accepted,
-            book: forget(after),
+            book: after,
         }
     }
 }

@@ -8,11 +8,11 @@ use lib.Dec.{eqb, ltb}
 use lib.IntN.{ℤ}
 use lib.ListN.{length, length-set}
 use lib.Pow.{pow-mono, pow-pos}
-use borrow.Author.Tests.{eqb-true, eq-eqb, ne-eqb, ltb-true, ltb-false, not-true, not-false}
+use borrow.Author.Tests.{eqb-true, eq-eqb, ne-eqb, ltb-true, ltb-false, not-true}
 use Rattle.conditions.specs.Sets.{member, setOf}
 use Rattle.conditions.specs.Places.{withPlace}
 use Rattle.conditions.specs.Conditions.{full}
-use Rattle.conditions.proofs.Laws.Below.{and-left, and-right, by-cases, any-none, any-of, any-some, first-passes}
+use Rattle.conditions.proofs.Laws.Below.{by-cases, any-none, any-of, first-passes}
 use Rattle.conditions.proofs.Laws.Sets.{member-past, member-none, setOf-lt, member-setOf, is-setOf}
 use Rattle.polyvalues.specs.Pairs.{depends}
 use Rattle.polyvalues.specs.Polyvalues.{room, inUse, packed, WellFormed}
@@ -36,6 +36,7 @@ use Rattle.book.specs.Sound.{Sound}
 use Rattle.book.proofs.Laws.Rows.{length-rows, getD-rows, past-rows}
 use Rattle.book.proofs.Laws.Programs.{run-reads, run-range}
 use Rattle.book.proofs.Laws.Touched.{touched-below}
+use Rattle.book.proofs.Laws.Touched.{touched-idle as district-idle}
 use Rattle.book.proofs.Laws.Sound.{place-named}
 use Rattle.book.proofs.Laws.Shaped.{ShapedItem, Shaped, getD-set}
 use Rattle.book.proofs.Laws.Values.{begin-item}
@@ -212,16 +213,7 @@ module _ (w : ℕ) (b : Book) (sound : Sound w b) (t : Shaped w b) (xs : List St
       (ap₂ _&&_ k (eq-eqb (itemAt b i .district) (itemAt b i .district) refl))
 
   pub touched-idle : (e : ℕ) → touchesDistrict b xs e ≡ true → (e < b .districts) × (recordOn (recordAt b e) ≡ 0)
-  unfolding touchesDistrict someBusy itemOn
-  touched-idle e k =
-      let some = any-some (b .count) (λ i. touches xs i && eqb (itemAt b i .district) e) k in
-      let i : ℕ = some .0 in
-      let touched : touches xs i ≡ true = and-left (touches xs i) _ (some .2) in
-      let its : itemAt b i .district ≡ e = eqb-true (itemAt b i .district) e (and-right (touches xs i) _ (some .2)) in
-      let no : (touches xs i && not (eqb (recordOn (recordAt b (itemAt b i .district))) 0)) ≡ false =
-      any-none (b .count) (λ i. touches xs i && not (eqb (itemOn b (itemAt b i)) 0)) (f .idles) i (some .1) in
-      let none : recordOn (recordAt b (itemAt b i .district)) ≡ 0 = eqb-true (recordOn (recordAt b (itemAt b i .district))) 0 (not-false _ (rw touched at no)) in
-      (rw its at (sound .belongs i (some .1)), rw its at none)
+  touched-idle e k = district-idle b xs (sound .belongs) (f .idles) e k
 
   onNew : (x : Item) → touchesDistrict b xs (x .district) ≡ true → itemOn c x ≡ n
   unfolding itemOn recordOn

@@ -48,6 +48,16 @@ module _ {A : Type 0} (f : ℕ → A → A) (z : A) where
   same-from k (suc n) (x ∷ xs) e =
       ap₂ _∷_ (start k x ∙ e 0 (omega arith) (omega arith)) (same-from (suc k) n xs (λ i h l. shift k i (getD xs i z) ∙ e (suc i) (omega arith) (omega arith)))
 
+  set-else : (k n : ℕ) (xs : List A) (i : ℕ) (y : A) → i < n → ((j : ℕ) → j < n → j < length xs → f (k + j) (getD xs j z) ≡ getD xs j z)
+      → rowsFrom k f n (set xs i y) ≡ set xs i (f (k + i) y)
+  unfolding rowsFrom
+  set-else k zero xs i y h e = absurd (omega arith)
+  set-else k (suc n) [] i y h e = refl
+  set-else k (suc n) (x ∷ xs) zero y h e = ap₂ _∷_ (start k y) (same-from (suc k) n xs (λ j l m. shift k j (getD xs j z) ∙ e (suc j) (omega arith) (omega arith)))
+  set-else k (suc n) (x ∷ xs) (suc i) y h e =
+      ap₂ _∷_ (start k x ∙ e 0 (omega arith) (omega arith))
+      (set-else (suc k) n xs i y (omega arith) (λ j l m. shift k j (getD xs j z) ∙ e (suc j) (omega arith) (omega arith)) ∙ ap (set xs i) (shift k i y))
+
   here : (i : ℕ) (x : A) → f (0 + i) x ≡ f i x
   here i x = let e : 0 + i ≡ i = omega arith in ap (λ (m : ℕ). f m x) e
 
@@ -69,3 +79,7 @@ module _ {A : Type 0} (f : ℕ → A → A) (z : A) where
   -- a change that changes nothing
   pub rows-same : (n : ℕ) (xs : List A) → ((i : ℕ) → i < n → f i (getD xs i z) ≡ getD xs i z) → rows f n xs ≡ xs
   rows-same n xs e = same-from 0 n xs (λ i h l. here i (getD xs i z) ∙ e i h)
+
+  -- one that changes nothing, of a table where a row is set, changes only that row
+  pub rows-set : (n : ℕ) (xs : List A) (i : ℕ) (y : A) → i < n → ((j : ℕ) → j < n → f j (getD xs j z) ≡ getD xs j z) → rows f n (set xs i y) ≡ set xs i (f i y)
+  rows-set n xs i y h e = set-else 0 n xs i y h (λ j l m. here j (getD xs j z) ∙ e j l) ∙ ap (set xs i) (here i y)

@@ -1,15 +1,14 @@
 -- Each test in its order.
 use borrow.Author.Needs.{needs}
-use mathlib.Core.Path.{refl, sym, ap, _∙_}
+use native.Mathlib.Omega.{arith}
+use mathlib.Core.Path.{sym, ap, _∙_}
 use borrow.Author.Tests.{lt-ltb, le-ltb, eq-eqb, ne-eqb, not-true, not-false}
-use Rattle.conditions.specs.Places.{places}
 use Rattle.book.specs.declared.Book.{Book}
 use Rattle.book.specs.Answers.{firstOf}
 use Rattle.book.specs.Book.{placeOf}
-use Rattle.book.specs.Forget.{forget}
 use Rattle.book.specs.Transactions.{done}
-use Rattle.book.proofs.Doing.{accepts, few}
-use Rattle.book.specs.Decide.{decide, abortAnswer, abort}
+use Rattle.book.proofs.Doing.{accepts}
+use Rattle.book.specs.Decide.{abortAnswer, abort}
 use Rattle.book.proofs.Book.abort.Statement.{statement}
 use Rattle.book.proofs.Book.abort.Tie as tie
 
@@ -38,17 +37,13 @@ unfolding abort abortAnswer done firstOf placeOf
 returns-3 c = rw (sym (c .before .before .before .before .before .before .before .is-sound .ensures) ∙ not-false _ (c .before .before .before .before .before .before .if1 .left), ← (c .before .before .before .before .place-of .ensures), lt-ltb _ _ (c .before .before .before .if2 .left), ne-eqb _ 0 (c .if3 .taken))
 
 decided-requires : tie.Need-decided-requires
-decided-requires c κs = search needs
-
-forget-requires : tie.Need-forget-requires
-unfolding decide placeOf
-forget-requires c κs = few places (c .before .before .before .before .before .before .before .before .before .args .t1) (sym (c .before .before .before .before .before .before .before .before .is-sound .ensures) ∙ not-false _ (c .before .before .before .before .before .before .before .if1 .left)) (c .decided .ensures (c .before .before .before .before .before .before .before .before .before .args .n .0) (c .before .before .before .before .before .place-of .ensures)) refl refl
+decided-requires c κs = (sym (c .before .before .before .before .before .before .before .is-sound .ensures) ∙ not-false _ (c .before .before .before .before .before .before .if1 .left), c .before .before .before .if2 .left, omega arith)
 
 returns-4 : tie.Need-returns-4
 unfolding abort abortAnswer done firstOf placeOf
 returns-4 c =
-    ap (λ (b : Book). accepts b) (c .forget .ensures ∙ ap (λ (b : Book). forget places b) (c .before .decided .ensures (c .before .before .before .before .before .before .before .before .before .before .args .n .0) (c .before .before .before .before .before .before .place-of .ensures)))
-    ∙ rw (sym (c .before .before .before .before .before .before .before .before .before .is-sound .ensures) ∙ not-false _ (c .before .before .before .before .before .before .before .before .if1 .left), ← (c .before .before .before .before .before .before .place-of .ensures), lt-ltb _ _ (c .before .before .before .before .before .if2 .left), eq-eqb _ 0 (c .before .before .if3 .left))
+    ap (λ (b : Book). accepts b) (c .decided .ensures (c .before .before .before .before .before .before .before .before .before .args .n .0) (c .before .before .before .before .before .place-of .ensures))
+    ∙ rw (sym (c .before .before .before .before .before .before .before .before .is-sound .ensures) ∙ not-false _ (c .before .before .before .before .before .before .before .if1 .left), ← (c .before .before .before .before .before .place-of .ensures), lt-ltb _ _ (c .before .before .before .before .if2 .left), eq-eqb _ 0 (c .before .if3 .left))
 
 pub abort-spec : {M : Type 1} → statement M
 abort-spec =
@@ -62,5 +57,4 @@ abort-spec =
     element-copy-out-o
     returns-3
     decided-requires
-    forget-requires
     returns-4)

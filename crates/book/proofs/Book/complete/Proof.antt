@@ -1,16 +1,16 @@
 -- Each test in its order.
 use borrow.Author.Needs.{needs}
-use mathlib.Core.Path.{refl, sym, ap, _∙_}
+use native.Mathlib.Omega.{arith}
+use mathlib.Core.Path.{sym, ap, _∙_}
 use borrow.Author.Tests.{lt-ltb, le-ltb, eq-eqb, ne-eqb, not-true, not-false}
 use Rattle.conditions.specs.Places.{places}
 use Rattle.book.specs.declared.Book.{Book}
 use Rattle.book.specs.Answers.{firstOf}
 use Rattle.book.specs.Book.{placeOf}
-use Rattle.book.specs.Forget.{forget}
 use Rattle.book.specs.Transactions.{done}
 use Rattle.book.proofs.Laws.Sound.{test-sound}
-use Rattle.book.proofs.Doing.{accepts, few}
-use Rattle.book.specs.Decide.{someNotReady, decide, completeAnswer, complete}
+use Rattle.book.proofs.Doing.{accepts}
+use Rattle.book.specs.Decide.{someNotReady, completeAnswer, complete}
 use Rattle.book.proofs.Book.complete.Statement.{statement}
 use Rattle.book.proofs.Book.complete.Tie as tie
 
@@ -46,17 +46,13 @@ unfolding complete completeAnswer done firstOf placeOf someNotReady
 returns-4 c = rw (sym (c .before .before .before .before .before .before .before .before .before .is-sound .ensures) ∙ not-false _ (c .before .before .before .before .before .before .before .before .if1 .left), ← (c .before .before .before .before .before .before .place-of .ensures), lt-ltb _ _ (c .before .before .before .before .before .if2 .left), eq-eqb _ 0 (c .before .before .if3 .left), sym (c .before .some-awaited .ensures) ∙ c .if4 .taken)
 
 decided-requires : tie.Need-decided-requires
-decided-requires c κs = search needs
-
-forget-requires : tie.Need-forget-requires
-unfolding decide placeOf
-forget-requires c κs = few places (c .before .before .before .before .before .before .before .before .before .before .before .args .t1) (sym (c .before .before .before .before .before .before .before .before .before .before .is-sound .ensures) ∙ not-false _ (c .before .before .before .before .before .before .before .before .before .if1 .left)) (c .decided .ensures (c .before .before .before .before .before .before .before .before .before .before .before .args .n .0) (c .before .before .before .before .before .before .before .place-of .ensures)) refl refl
+decided-requires c κs = (sym (c .before .before .before .before .before .before .before .before .before .is-sound .ensures) ∙ not-false _ (c .before .before .before .before .before .before .before .before .if1 .left), c .before .before .before .before .before .if2 .left, omega arith)
 
 returns-5 : tie.Need-returns-5
 unfolding complete completeAnswer someNotReady done firstOf placeOf
 returns-5 c =
-    ap (λ (b : Book). accepts b) (c .forget .ensures ∙ ap (λ (b : Book). forget places b) (c .before .decided .ensures (c .before .before .before .before .before .before .before .before .before .before .before .before .args .n .0) (c .before .before .before .before .before .before .before .before .place-of .ensures)))
-    ∙ rw (sym (c .before .before .before .before .before .before .before .before .before .before .before .is-sound .ensures) ∙ not-false _ (c .before .before .before .before .before .before .before .before .before .before .if1 .left), ← (c .before .before .before .before .before .before .before .before .place-of .ensures), lt-ltb _ _ (c .before .before .before .before .before .before .before .if2 .left), eq-eqb _ 0 (c .before .before .before .before .if3 .left), sym (c .before .before .before .some-awaited .ensures) ∙ c .before .before .if4 .left)
+    ap (λ (b : Book). accepts b) (c .decided .ensures (c .before .before .before .before .before .before .before .before .before .before .before .args .n .0) (c .before .before .before .before .before .before .before .place-of .ensures))
+    ∙ rw (sym (c .before .before .before .before .before .before .before .before .before .before .is-sound .ensures) ∙ not-false _ (c .before .before .before .before .before .before .before .before .before .if1 .left), ← (c .before .before .before .before .before .before .before .place-of .ensures), lt-ltb _ _ (c .before .before .before .before .before .before .if2 .left), eq-eqb _ 0 (c .before .before .before .if3 .left), sym (c .before .before .some-awaited .ensures) ∙ c .before .if4 .left)
 
 pub complete-spec : {M : Type 1} → statement M
 complete-spec =
@@ -72,5 +68,4 @@ complete-spec =
     some-awaited-requires
     returns-4
     decided-requires
-    forget-requires
     returns-5)

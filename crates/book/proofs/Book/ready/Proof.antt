@@ -1,14 +1,15 @@
 -- Each test in its order.
 use borrow.Author.Needs.{needs}
-use mathlib.Core.Path.{refl, sym, ap, _∙_}
+use mathlib.Core.Path.{sym, ap, _∙_}
 use borrow.Author.Tests.{lt-ltb, le-ltb, not-true, not-false}
 use Rattle.conditions.specs.Places.{places}
 use Rattle.book.specs.declared.Book.{Book}
 use Rattle.book.specs.Answers.{firstOf}
 use Rattle.book.specs.Book.{placeOf}
-use Rattle.book.specs.Forget.{forget}
 use Rattle.book.specs.Transactions.{done}
-use Rattle.book.proofs.Doing.{accepts, few, district-row}
+use Rattle.book.proofs.Doing.{accepts, district-row}
+use Rattle.book.proofs.Laws.Sound.{test-sound}
+use Rattle.book.proofs.Laws.Needing.{ready-forgets-none}
 use Rattle.book.specs.Ready.{readyAnswer, readied, ready}
 use Rattle.book.proofs.Book.ready.Statement.{statement}
 use Rattle.book.proofs.Book.ready.Tie as tie
@@ -47,15 +48,15 @@ returns-4 c = rw (sym (c .before .before .before .before .before .before .before
 readied-requires : tie.Need-readied-requires
 readied-requires c κs = (c .before .before .before .before .if2 .left, district-row places (c .before .before .before .before .before .before .before .before .before .args .t1) (sym (c .before .before .before .before .before .before .before .before .is-sound .ensures) ∙ not-false _ (c .before .before .before .before .before .before .before .if1 .left)) (c .before .before .before .if3 .left))
 
-forget-requires : tie.Need-forget-requires
-unfolding readied placeOf
-forget-requires c κs = few places (c .before .before .before .before .before .before .before .before .before .before .args .t1) (sym (c .before .before .before .before .before .before .before .before .before .is-sound .ensures) ∙ not-false _ (c .before .before .before .before .before .before .before .before .if1 .left)) (c .readied .ensures (c .before .before .before .before .before .before .before .before .before .before .args .n .0) (c .before .before .before .before .before .before .place-of .ensures)) refl refl
-
 returns-5 : tie.Need-returns-5
 unfolding ready readyAnswer done firstOf placeOf
 returns-5 c =
-    ap (λ (b : Book). accepts b) (c .forget .ensures ∙ ap (λ (b : Book). forget places b) (c .before .readied .ensures (c .before .before .before .before .before .before .before .before .before .before .before .args .n .0) (c .before .before .before .before .before .before .before .place-of .ensures)))
-    ∙ rw (sym (c .before .before .before .before .before .before .before .before .before .before .is-sound .ensures) ∙ not-false _ (c .before .before .before .before .before .before .before .before .before .if1 .left), ← (c .before .before .before .before .before .before .before .place-of .ensures), lt-ltb _ _ (c .before .before .before .before .before .before .if2 .left), lt-ltb _ _ (c .before .before .before .before .before .if3 .left), sym (c .before .before .before .computing-on .ensures) ∙ not-false _ (c .before .before .if4 .left))
+    let b = c .before .before .before .before .before .before .before .before .before .before .args .t1 in
+    let n = c .before .before .before .before .before .before .before .before .before .before .args .n .0 in
+    let s = sym (c .before .before .before .before .before .before .before .before .before .is-sound .ensures) ∙ not-false _ (c .before .before .before .before .before .before .before .before .if1 .left) in
+    let on = sym (c .before .before .computing-on .ensures) ∙ not-false _ (c .before .if4 .left) in
+    ap (λ (b : Book). accepts b) (c .readied .ensures n (c .before .before .before .before .before .before .place-of .ensures) ∙ sym (ready-forgets-none places b n (c .before .before .before .before .before .before .before .before .before .before .args .d) (test-sound places b s) on))
+    ∙ rw (s, ← (c .before .before .before .before .before .before .place-of .ensures), lt-ltb _ _ (c .before .before .before .before .before .if2 .left), lt-ltb _ _ (c .before .before .before .before .if3 .left), on)
 
 pub ready-spec : {M : Type 1} → statement M
 ready-spec =
@@ -71,5 +72,4 @@ ready-spec =
     computing-on-requires
     returns-4
     readied-requires
-    forget-requires
     returns-5)

@@ -9,10 +9,10 @@ use Rattle.book.proofs.begin.begin_at.Statement.{statement}
 use Rattle.book.proofs.begin.begin_at.Tie as tie
 
 worked-out-requires : tie.Need-worked-out-requires
-worked-out-requires c κs = search needs
+worked-out-requires c κs = (c .pre .0 .0, c .pre .1 .0)
 
 too-many-requires : tie.Need-too-many-requires
-too-many-requires c κs = (test-sound places (c .before .args .b) (c .before .pre .0) .fewItems, (c .worked-out .ensures .0, c .worked-out .ensures .1))
+too-many-requires c κs = (test-sound places (c .before .args .b) (c .before .pre .0 .0) .fewItems, (c .worked-out .ensures .0, c .worked-out .ensures .1))
 
 refused-requires : tie.Need-refused-requires
 refused-requires c κs = search needs
@@ -22,10 +22,10 @@ returns c = rw (sym (c .before .before .too-many .ensures) ∙ c .before .if1 .t
 
 accepted-requires : tie.Need-accepted-requires
 accepted-requires c κs =
-    let s = test-sound places (c .before .before .before .args .b) (c .before .before .before .pre .0) in
     let few = sym (c .before .too-many .ensures) ∙ c .if1 .left in
     let all = by-cases (c .before .before .worked-out .result .fits) (c .before .before .worked-out .ensures .0) (λ e. absurd (true≢false (sym (c .before .before .worked-out .ensures .1 e) ∙ few))) in
-    ((s .fewDistricts, s .fewItems, c .before .before .before .pre .1 .1 .2), ((c .before .before .before .pre .1 .1 .0, c .before .before .before .pre .1 .1 .1), all))
+    let pre = c .before .before .before .pre in
+    ((pre .0 .0, pre .0 .1, pre .1 .1 .2), ((pre .1 .1 .0, pre .1 .1 .1), all))
 
 returns-2 : tie.Need-returns-2
 returns-2 c = rw (sym (c .before .before .too-many .ensures) ∙ c .before .if1 .left) (c .accepted .ensures)

@@ -45,7 +45,7 @@ returns-3 c bytes good e =
 
 begin-at-requires : tie.Need-begin-at-requires
 unfolding freePlace
-begin-at-requires c κs = (c .before .before .before .before .before .before .before .pre .0, (c .before .before .before .before .before .before .before .pre .1, (c .before .before .before .before .free-place .ensures, c .before .before .if2 .left, c .if3 .left)))
+begin-at-requires c κs = ((c .before .before .before .before .before .before .before .pre .0, sym (c .before .before .before .before .before .before .some-busy .ensures) ∙ c .before .before .before .if1 .left), (c .before .before .before .before .before .before .before .pre .1, (c .before .before .before .before .free-place .ensures, c .before .before .if2 .left, c .if3 .left)))
 
 returns-4 : tie.Need-returns-4
 unfolding firstOf freePlace
