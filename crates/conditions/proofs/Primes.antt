@@ -67,6 +67,7 @@ all-needed w p c e f = sym (ap₂ _&&_ e f)
 
 -- ---- the next prime product
 
+-- a product that is not prime, alone
 pub none-one : (w c p : ℕ) → prime w p c ≡ false → NonePrime w c p (p + 1)
 none-one w c p e j l = let at : p + j ≡ p = omega arith in ap (λ (q : ℕ). prime w q c) at ∙ e
 

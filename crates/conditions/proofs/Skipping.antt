@@ -18,22 +18,28 @@ use Rattle.conditions.proofs.Primes.{not-within, not-needed}
 
 -- ---- `(c >> s) & (c & m)`, `c >> s` and `c & m` with `s = 1 << i` and `m = (1 << s) - 1`
 
+-- `1 << s` is one more than the greatest number of 2 ^ i bits
 one-shl-twice : (w i : ℕ) {s : ℕ} → i < w → s ≡ 2 ^ i → 1 * 2 ^ s % 2 ^ 2 ^ w ≡ 2 ^ 2 ^ i
 one-shl-twice w i h e = rw e (one-shl (2 ^ w) (2 ^ i) (pow-lt h))
 
+-- so 1 can be taken from it
 pub half-some : (w i : ℕ) {s : ℕ} → i < w → s ≡ 2 ^ i → 1 ≤ 1 * 2 ^ s % 2 ^ 2 ^ w
 half-some w i h e = rw (one-shl-twice w i h e) (pow-pos (2 ^ i))
 
+-- and `c & m` is the low half
 low-half : (w i c : ℕ) {s : ℕ} → i < w → s ≡ 2 ^ i → bitAnd c (1 * 2 ^ s % 2 ^ 2 ^ w - 1) ≡ c % 2 ^ 2 ^ i
 low-half w i c h e = ap (λ (m : ℕ). bitAnd c (m - 1)) (one-shl-twice w i h e) ∙ and-mask c (2 ^ i)
 
+-- a place that is absent leaves what both halves have
 pub leaves-both : (w i c : ℕ) {d s : ℕ} → i < w → s ≡ 2 ^ i → d ≡ 0 → (q : ℕ) → tagAt q i ≡ d
     → within i q (bitAnd (c / 2 ^ s) (bitAnd c (1 * 2 ^ s % 2 ^ 2 ^ w - 1))) ≡ within (suc i) q c
 leaves-both w i c h e z q t = ap₂ (λ (m n : ℕ). within i q (bitAnd (c / 2 ^ m) n)) e (low-half w i c h e) ∙ within-absent i q c (t ∙ z)
 
+-- a completed one leaves the high half
 pub leaves-high : (i c : ℕ) {d s : ℕ} → s ≡ 2 ^ i → d ≡ 1 → (q : ℕ) → tagAt q i ≡ d → within i q (c / 2 ^ s) ≡ within (suc i) q c
 leaves-high i c e z q t = ap (λ (m : ℕ). within i q (c / 2 ^ m)) e ∙ within-completed i q c (t ∙ z)
 
+-- an aborted one leaves the low half
 pub leaves-low : (w i c : ℕ) {d s : ℕ} → i < w → s ≡ 2 ^ i → (d ≡ 0 → ⊥) → (d ≡ 1 → ⊥) → (q : ℕ) → tagAt q i ≡ d
     → within i q (bitAnd c (1 * 2 ^ s % 2 ^ 2 ^ w - 1)) ≡ within (suc i) q c
 leaves-low w i c h e z n q t = ap (within i q) (low-half w i c h e) ∙ within-aborted i q c (λ y. z (sym t ∙ y)) (λ y. n (sym t ∙ y))
@@ -58,35 +64,40 @@ barren-same i set {without = without} has e leaves frees q t =
 
 -- ---- the walk
 
--- the tags of p from place i on are read
+-- the tags of p from place i on are read: the rest of its number has the others, and a product with these tags is within the condition where it is within the set
 pub record Walk (w c p i set rest scale : ℕ) : Type 0 where
   pub up-to : i ≤ w
   pub scaled : scale ≡ 3 ^ i
   pub lower : rest ≡ p % 3 ^ i
   pub leaves : (q : ℕ) → ((j : ℕ) → i ≤ j → j < w → tagAt q j ≡ tagAt p j) → within i q set ≡ within w q c
 
+-- before the highest place none is read
 pub walk-begins : (w c p : ℕ) → Walk w c p w c (p % 3 ^ w) (3 ^ w)
 walk-begins w c p = record { up-to = le-refl w; scaled = refl; lower = refl; leaves = λ q same. refl }
 
--- what the next place counts, and that it is not 0
+-- what the next place counts
 scale-is : (k : ℕ) {i scale : ℕ} → i ≡ suc k → scale ≡ 3 ^ i → scale / 3 ≡ 3 ^ k
 scale-is k e s = let next : 3 ^ suc k ≡ 3 ^ k * 3 = pow-suc 3 k in let here : _ ≡ 3 ^ suc k = s ∙ ap (λ (n : ℕ). 3 ^ n) e in omega arith
 
+-- which is not 0
 pub scale-some : (w c p k : ℕ) {i set rest scale : ℕ} → i ≡ suc k → Walk w c p i set rest scale → 0 < scale / 3
 scale-some w c p k e walk = rw (scale-is k e (walk .scaled)) (one-le-pow k 3 (zero-lt-suc 2))
 
--- the tag there, and what is below it
-cut-tag : (p k : ℕ) → p % 3 ^ suc k ≡ tagAt p k * 3 ^ k + p % 3 ^ k
+-- the rest is the next tag and what is below it
+rest-cut : (w c p k : ℕ) {i set rest scale : ℕ} → i ≡ suc k → Walk w c p i set rest scale → rest ≡ tagAt p k * 3 ^ k + p % 3 ^ k
 unfolding tagAt
-cut-tag p k = ap (λ (m : ℕ). p % m) (pow-succ' 3 k) ∙ mod-mul p (zero-lt-suc 2) (one-le-pow k 3 (zero-lt-suc 2))
+rest-cut w c p k e walk =
+    walk .lower ∙ ap (λ (n : ℕ). p % 3 ^ n) e ∙ ap (λ (m : ℕ). p % m) (pow-succ' 3 k) ∙ mod-mul p (zero-lt-suc 2) (one-le-pow k 3 (zero-lt-suc 2))
 
+-- the one by `/`
 tag-is : (w c p k : ℕ) {i set rest scale : ℕ} → i ≡ suc k → Walk w c p i set rest scale → rest / (scale / 3) ≡ tagAt p k
 tag-is w c p k e walk =
-    ap₂ _/_ (walk .lower ∙ ap (λ (n : ℕ). p % 3 ^ n) e ∙ cut-tag p k) (scale-is k e (walk .scaled)) ∙ digits-div (tagAt p k) (mod-lt p (one-le-pow k 3 (zero-lt-suc 2)))
+    ap₂ _/_ (rest-cut w c p k e walk) (scale-is k e (walk .scaled)) ∙ digits-div (tagAt p k) (mod-lt p (one-le-pow k 3 (zero-lt-suc 2)))
 
+-- the other by `%`
 rest-is : (w c p k : ℕ) {i set rest scale : ℕ} → i ≡ suc k → Walk w c p i set rest scale → rest % (scale / 3) ≡ p % 3 ^ k
 rest-is w c p k e walk =
-    ap₂ _%_ (walk .lower ∙ ap (λ (n : ℕ). p % 3 ^ n) e ∙ cut-tag p k) (scale-is k e (walk .scaled)) ∙ digits-mod (tagAt p k) (mod-lt p (one-le-pow k 3 (zero-lt-suc 2)))
+    ap₂ _%_ (rest-cut w c p k e walk) (scale-is k e (walk .scaled)) ∙ digits-mod (tagAt p k) (mod-lt p (one-le-pow k 3 (zero-lt-suc 2)))
 
 -- one place further
 pub walk-on : (w c p k : ℕ) {i set rest scale r : ℕ} → i ≡ suc k → Walk w c p i set rest scale
@@ -103,11 +114,12 @@ walk-on w c p k {i} {set} e walk narrows =
 
 -- ---- where it stops
 
--- the numbers up to the next multiple of 3 ^ k have the same tags from place k on
+-- the tags from place k on are those of the quotient
 tag-high : (p k n : ℕ) → tagAt p (k + n) ≡ p / 3 ^ k / 3 ^ n % 3
 unfolding tagAt
 tag-high p k n = ap (λ (m : ℕ). p / m % 3) (pow-add 3 k n) ∙ ap (λ (m : ℕ). m % 3) (sym (div-div-eq-div-mul p (3 ^ k) (3 ^ n)))
 
+-- so the numbers up to the next multiple of 3 ^ k have the same ones
 same-high : (p k j : ℕ) → j < 3 ^ k - p % 3 ^ k → (i : ℕ) → k ≤ i → tagAt (p + j) i ≡ tagAt p i
 same-high p k j h i l =
     let cut : p / 3 ^ k * 3 ^ k + p % 3 ^ k ≡ p = div-add-mod' p (3 ^ k) in
@@ -116,7 +128,7 @@ same-high p k j h i l =
     let at : i ≡ k + (i - k) = omega arith in
     ap (tagAt (p + j)) at ∙ tag-high (p + j) k (i - k) ∙ ap (λ (n : ℕ). n / 3 ^ (i - k) % 3) high ∙ sym (ap (tagAt p) at ∙ tag-high p k (i - k))
 
--- so none of them is prime, where none needs its tag at place k
+-- and none of them is prime, where none needs its tag at place k
 pub walk-stops : (w c p k : ℕ) {i set rest scale : ℕ} → i ≡ suc k → Walk w c p i set rest scale
     → ((q : ℕ) → tagAt q k ≡ rest / (scale / 3) → (within (suc k) q set && needed (suc k) q set k) ≡ false)
     → NonePrime w c p (p + (scale / 3 - rest % (scale / 3)))

@@ -54,13 +54,14 @@ pub all-more : (k : ℕ) (f : ℕ → Bool) → all k f ≡ true → f k ≡ tru
 unfolding all
 all-more k f e g = ap₂ _&&_ e g
 
--- of two runs of numbers, and of two tests
+-- of two runs of numbers
 pub all-plus : (k m : ℕ) (f : ℕ → Bool) → all (k + m) f ≡ (all k f && all m (λ n. f (k + n)))
 unfolding all
 all-plus k zero f = ap (λ (n : ℕ). all n f) (add-zero k) ∙ sym (and-true (all k f))
 all-plus k (suc m) f =
     ap (λ (n : ℕ). all n f) (add-suc k m) ∙ ap (λ (x : Bool). x && f (k + m)) (all-plus k m f) ∙ and-assoc (all k f) (all m (λ n. f (k + n))) (f (k + m))
 
+-- of two tests at once
 pub all-both : (k : ℕ) (f g : ℕ → Bool) → all k (λ n. f n && g n) ≡ (all k f && all k g)
 unfolding all
 all-both zero f g = refl

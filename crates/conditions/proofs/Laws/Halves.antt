@@ -12,14 +12,15 @@ use Rattle.conditions.proofs.Laws.Below.{all-of, all-same, all-plus, al
 use Rattle.conditions.proofs.Laws.Sets.{member-and, member-none, member-past, member-mod, member-shr}
 use Rattle.conditions.proofs.Laws.Places.{member-more, up-other}
 
--- the last place of an assignment of the low half, and of one of the high half
+-- the last place of an assignment of the low half is aborted
 low-last : (i a : ℕ) → a < 2 ^ i → member a i ≡ false
 low-last i a h = member-past i a i h (le-refl i)
 
+-- that of the high half is completed
 high-last : (i a : ℕ) → a < 2 ^ i → member (2 ^ i + a) i ≡ true
 high-last i a h = member-more a i ∙ ap not (low-last i a h)
 
--- the other places of it are those of the same one of the low half
+-- and its other places are those of the assignment 2 ^ i below it
 allows-high : (i q a : ℕ) → a < 2 ^ i → allows i q (2 ^ i + a) ≡ allows i q a
 unfolding allows
 allows-high i q a h =
@@ -57,14 +58,16 @@ within-both w q c d =
     (λ a h. ap (λ (x : Bool). not (allows w q a) || x) (member-and c d a) ∙ or-and-distrib-left (not (allows w q a)) (member c a) (member d a))
     ∙ all-both (2 ^ w) (λ a. not (allows w q a) || member c a) (λ a. not (allows w q a) || member d a)
 
--- what the tag of the last place leaves of a set: what both halves have, the high one, the low one
+-- an absent tag leaves of a set what both halves have
 pub within-absent : (i q c : ℕ) → tagAt q i ≡ 0 → within i q (bitAnd (c / 2 ^ 2 ^ i) (c % 2 ^ 2 ^ i)) ≡ within (suc i) q c
 within-absent i q c t =
     within-both i q (c / 2 ^ 2 ^ i) (c % 2 ^ 2 ^ i) ∙ and-comm (within i q (c / 2 ^ 2 ^ i)) (within i q (c % 2 ^ 2 ^ i)) ∙ sym (within-halves i q c ∙ rw t refl)
 
+-- a completed one leaves the high half
 pub within-completed : (i q c : ℕ) → tagAt q i ≡ 1 → within i q (c / 2 ^ 2 ^ i) ≡ within (suc i) q c
 within-completed i q c t = sym (within-halves i q c ∙ rw t refl)
 
+-- an aborted one leaves the low half
 pub within-aborted : (i q c : ℕ) → (tagAt q i ≡ 0 → ⊥) → (tagAt q i ≡ 1 → ⊥) → within i q (c % 2 ^ 2 ^ i) ≡ within (suc i) q c
 within-aborted i q c z n = sym (within-halves i q c ∙ go (tagAt q i) z n)
   where

@@ -107,12 +107,13 @@ pub allows-of : (w p a : ℕ) → ((i : ℕ) → i < w → agrees (tagAt p i) (m
 unfolding allows
 allows-of w p a f = all-of w (λ i. agrees (tagAt p i) (member a i)) f
 
--- only the tags of the w places count
+-- only the tags of the w places count: in what a product allows
 allows-tags : (w p q a : ℕ) → ((i : ℕ) → i < w → tagAt p i ≡ tagAt q i) → allows w p a ≡ allows w q a
 unfolding allows
 allows-tags w p q a same =
     all-same w (λ i. agrees (tagAt p i) (member a i)) (λ i. agrees (tagAt q i) (member a i)) (λ i l. ap (λ (d : ℕ). agrees d (member a i)) (same i l))
 
+-- in what it is within
 pub within-tags : (w p q c : ℕ) → ((i : ℕ) → i < w → tagAt p i ≡ tagAt q i) → within w p c ≡ within w q c
 unfolding within
 within-tags w p q c same =
