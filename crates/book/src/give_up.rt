@@ -3,15 +3,13 @@ ghost use mathlib.Core.Path.{_≡_};
 ghost use mathlib.Core.Bool.{true};
 ghost use Prim.Native.Nat.{_<_};
 ghost use Rattle.conditions.specs.Places.{places};
-ghost use Rattle.book.specs.Rows.{rows};
 ghost use Rattle.book.specs.Book.{mostDistricts, recordAt, placeOf};
 ghost use Rattle.book.specs.Records.{computingOn};
-ghost use Rattle.book.specs.GiveUp.{giveUpItem, marked, gaveUp, giveUp};
+ghost use Rattle.book.specs.GiveUp.{marked, gaveUp, giveUp};
 ghost use Rattle.book.specs.SoundTest.{sound};
 use crate::Answer;
 use crate::Book;
 use crate::Done;
-use crate::Item;
 use crate::Open;
 use crate::forget::forget;
 use crate::items::given_up;
@@ -19,29 +17,10 @@ use crate::records::busy_on;
 use crate::records::computing_on;
 use crate::records::rested;
 use crate::sets::including;
-use crate::tables::ITEMS;
 use crate::tables::place_of;
 use conditions::PLACES;
 use conditions::Place;
 use conditions::TransactionNumber;
-
-// Each item, when the district gives up.
-fn given_up_items(b: Book, n: TransactionNumber, d: u8, q: Place, computing: bool) -> [Item; ITEMS]
-    requires { ⌜ sound places b ≡ true ⌝ }
-    ensures { λ r. ⌜ r ≡ rows (λ i x. giveUpItem places b (n .0) d (q .0) computing x) (b .count) (b .items) ⌝ }
-{
-    let records = b.records;
-    let count = b.count;
-    let mut items = b.items;
-    let mut i: usize = 0;
-    while i < count {
-        let x = items[i];
-        let y = given_up(x, records, n, d, q, computing);
-        items[i] = y;
-        i += 1;
-    }
-    items
-}
 
 // The transaction on which the district gave up before it was ready.
 fn marked(o: Open, d: usize) -> Open
@@ -60,17 +39,25 @@ fn gave_up(mut b: Book, n: TransactionNumber, d: u8, q: usize, computing: bool) 
     requires { ⌜ (q ≡ placeOf places b (n .0)) × (computing ≡ computingOn (n .0) (recordAt b d)) ⌝ }
     ensures { λ r. ⌜ r ≡ gaveUp places b (n .0) d ⌝ }
 {
-    let items = given_up_items(b, n, d, Place(q), computing);
-    let i = d as usize;
-    let r = b.records[i];
+    let place = Place(q);
+    let records = b.records;
+    let count = b.count;
+    let mut i: usize = 0;
+    while i < count {
+        let x = b.items[i];
+        let y = given_up(x, records, n, d, place, computing);
+        b.items[i] = y;
+        i += 1;
+    }
+    let at = d as usize;
+    let r = records[at];
     let idle = rested(r);
-    b.records[i] = idle;
-    b.items = items;
+    b.records[at] = idle;
     if !computing {
         return b;
     }
     let o = b.open[q];
-    let known = marked(o, i);
+    let known = marked(o, at);
     b.open[q] = known;
     b
 }

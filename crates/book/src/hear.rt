@@ -2,40 +2,19 @@
 ghost use mathlib.Core.Path.{_≡_};
 ghost use Prim.Native.Nat.{_<_, _≤_};
 ghost use Rattle.conditions.specs.Places.{places};
-ghost use Rattle.book.specs.Rows.{rows};
 ghost use Rattle.book.specs.Book.{mostDistricts, mostItems, placeOf};
 ghost use Rattle.book.specs.Transactions.{openOf};
-ghost use Rattle.book.specs.Hear.{outcome, hearItem, heard, hear};
+ghost use Rattle.book.specs.Hear.{outcome, heard, hear};
 use crate::Answer;
 use crate::Book;
 use crate::Done;
-use crate::Item;
 use crate::forget::forget;
 use crate::items::heard as heard_item;
 use crate::records::heard as heard_record;
-use crate::tables::ITEMS;
 use crate::tables::place_of;
 use conditions::PLACES;
 use conditions::Place;
 use conditions::TransactionNumber;
-
-// Each item, when the district hears.
-fn heard_items(b: Book, n: TransactionNumber, d: u8, q: Place, completed: bool) -> [Item; ITEMS]
-    requires { ⌜ b .count ≤ mostItems ⌝ }
-    ensures { λ r. ⌜ r ≡ rows (λ i x. hearItem places b (n .0) d (q .0) completed x) (b .count) (b .items) ⌝ }
-{
-    let records = b.records;
-    let count = b.count;
-    let mut items = b.items;
-    let mut i: usize = 0;
-    while i < count {
-        let x = items[i];
-        let y = heard_item(x, records, n, d, q, completed);
-        items[i] = y;
-        i += 1;
-    }
-    items
-}
 
 // The district and its items have heard.
 fn heard(mut b: Book, n: TransactionNumber, d: u8, q: Place, completed: bool) -> Book
@@ -43,12 +22,19 @@ fn heard(mut b: Book, n: TransactionNumber, d: u8, q: Place, completed: bool) ->
     requires { ⌜ (q .0 ≡ placeOf places b (n .0)) × (completed ≡ outcome (openOf places b (n .0))) ⌝ }
     ensures { λ r. ⌜ r ≡ heard places b (n .0) d ⌝ }
 {
-    let items = heard_items(b, n, d, q, completed);
-    let i = d as usize;
-    let r = b.records[i];
+    let records = b.records;
+    let count = b.count;
+    let mut i: usize = 0;
+    while i < count {
+        let x = b.items[i];
+        let y = heard_item(x, records, n, d, q, completed);
+        b.items[i] = y;
+        i += 1;
+    }
+    let at = d as usize;
+    let r = records[at];
     let s = heard_record(r, n);
-    b.records[i] = s;
-    b.items = items;
+    b.records[at] = s;
     b
 }
 
