@@ -21,11 +21,11 @@ use Rattle.sheet.specs.Open.{tooLong, refused, openedSheet, openSheet}
 
 -- ---- what a reader that found nothing wrong has read
 
-no-read : {A : Type 0} {X : Type 0} {place at : ℕ} {x : A} {l : List ℕ} → wrong place ≡ right x at l → X
+pub no-read : {A : Type 0} {X : Type 0} {place at : ℕ} {x : A} {l : List ℕ} → wrong place ≡ right x at l → X
 no-read e = let z : _≡_ {A = ℕ} 0 1 = cc in absurd (omega arith)
 
 -- where two readers found nothing wrong, the first did not
-first-read : {A B : Type 0} (r : Read A) (more : A → ℕ → List ℕ → Read B) {y : B} {at : ℕ} {l : List ℕ} → andThen r more ≡ right y at l
+pub first-read : {A B : Type 0} (r : Read A) (more : A → ℕ → List ℕ → Read B) {y : B} {at : ℕ} {l : List ℕ} → andThen r more ≡ right y at l
     → (x : A) × (next : ℕ) × (rest : List ℕ) × (r ≡ right x next rest) × (more x next rest ≡ right y at l)
 first-read (wrong place) more e = no-read e
 first-read (right x next rest) more e = (x, next, rest, refl, e)
@@ -77,7 +77,7 @@ items-good count (suc n) got at l e g =
 
 -- ---- the sheet
 
-all-read : {A : Type 0} (y : A) (at : ℕ) (l : List ℕ) {x : A} {next : ℕ} {rest : List ℕ} → end y at l ≡ right x next rest → y ≡ x
+pub all-read : {A : Type 0} (y : A) (at : ℕ) (l : List ℕ) {x : A} {next : ℕ} {rest : List ℕ} → end y at l ≡ right x next rest → y ≡ x
 unfolding end
 all-read y at [] e = cc
 all-read y at (b ∷ l) e = no-read e
