@@ -44,11 +44,15 @@ use Rattle.book.specs.Show.{heldLine, showAnswer, shown}
 use Rattle.book.specs.Examples.{twice, told, Example1, Example2, Example3, Example4, Example5, Example6, Example7, Example8, Example9}
 use Rattle.book.proofs.Laws.Shaped.{Shaped}
 use Rattle.book.proofs.Laws.Calls.{Whole}
+use Rattle.sheet.specs.declared.events.Event.{Event}
 use Rattle.sheet.specs.Readers.{wrong, right}
 use Rattle.sheet.specs.Sections.{Sheet, sheet}
 use Rattle.sheet.specs.Open.{mostBytes, openSheet}
+use Rattle.sheet.specs.Output.{output}
+use Rattle.sheet.specs.Program.{byCalls}
 use Rattle.demands.specs.Calls.{Call, begins, readies, givesUp, completes, aborts, hears, shows, answerTo, numberGiven, bookAfter, History, bookOf}
 use Rattle.demands.specs.Past.{Said, pastOf, asksBegin, asksComplete, asksAbort, begun, Guess, serial}
+use Rattle.demands.specs.Playing.{IsCall, bookPlayed, historyOf}
 
 -- ==== Demand 1
 
@@ -282,6 +286,17 @@ OnSheets w =
     → (x : Sheet) × (at : ℕ) × (rest : List ℕ) × (sheet s ≡ right x at rest)
     × ((h : History) → Serially w (x .items) (bookOf w (openSheet w s .book) h) (pastOf w (openSheet w s .book) h))
 
+-- and so it holds of every book that the program comes to
+pub record OnProgram (w : ℕ) : Type 0 where
+  -- what it prints, as it opens the sheet and plays the events that it finds in it one by one, is `output`
+  pub prints : (s : List ℕ) → byCalls w s ≡ output w s
+  -- each event that it plays is a call: on any book, and whatever stands in the sheet
+  pub calls : (b : Book) (s : List ℕ) (e : Event) → IsCall w b s e
+  -- so the book after any events of a sheet that is accepted, as far as they were played, is the book after these calls
+  pub books : (s : List ℕ) → accepted (openSheet w s .answer) ≡ true
+      → (x : Sheet) × (at : ℕ) × (rest : List ℕ) × (sheet s ≡ right x at rest)
+      × ((es : List Event) → Serially w (x .items) (bookPlayed w (openSheet w s .book) s es) (pastOf w (openSheet w s .book) (historyOf s es)))
+
 -- ==== "Marked examples (prove these ten)"
 
 -- 8 and 9 as show writes them, after the count of pairs: "`0:T1&T2 1:!T1&T2 4:T1&!T2 5:!T1&!T2`" and "`0:T2 4:!T2`"
@@ -300,4 +315,5 @@ pub record Demands : Type 1 where
   pub two : (w : ℕ) → Demand2 w
   pub three : (w : ℕ) → Demand3 w
   pub onSheets : (w : ℕ) → OnSheets w
+  pub onProgram : (w : ℕ) → OnProgram w
   pub examples : MarkedExamples
