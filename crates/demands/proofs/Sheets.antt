@@ -9,7 +9,7 @@ use Rattle.sheet.specs.Open.{openSheet}
 use Rattle.sheet.specs.Play.{ofShow, outcome}
 use Rattle.sheet.proofs.Laws.Open.{sheet-opens}
 use Rattle.sheet.proofs.Laws.Walk.{by-calls}
-use Rattle.demands.specs.Calls.{History, nothing, _then_, bookOf}
+use Rattle.demands.specs.Calls.{History, nothing, _then_, afterCalls}
 use Rattle.demands.specs.Playing.{callOf, IsCall, bookPlayed, thenEvents, historyOf}
 use Rattle.demands.specs.Demands.{OnSheets, OnProgram}
 use Rattle.demands.proofs.Demand3.{demand-3}
@@ -31,9 +31,9 @@ is-call w b s (Hear n d) = record { answer = refl; book = refl }
 is-call w b s (Show i) = record { answer = refl; book = refl }
 
 -- the book after events is that of their calls
-played-calls : (w : ℕ) (b : Book) (s : List ℕ) (h : History) (es : List Event) → bookPlayed w (bookOf w b h) s es ≡ bookOf w b (thenEvents s h es)
+played-calls : (w : ℕ) (b : Book) (s : List ℕ) (h : History) (es : List Event) → bookPlayed w (afterCalls w b h) s es ≡ afterCalls w b (thenEvents s h es)
 played-calls w b s h [] = refl
-played-calls w b s h (e ∷ es) = ap (λ (c : Book). bookPlayed w c s es) (is-call w (bookOf w b h) s e .book) ∙ played-calls w b s (h then callOf s e) es
+played-calls w b s h (e ∷ es) = ap (λ (c : Book). bookPlayed w c s es) (is-call w (afterCalls w b h) s e .book) ∙ played-calls w b s (h then callOf s e) es
 
 pub on-program : (w : ℕ) → OnProgram w
 on-program w = record {

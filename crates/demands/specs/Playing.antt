@@ -9,11 +9,11 @@ use Rattle.sheet.specs.declared.events.Event.{Event}
 use Rattle.sheet.specs.declared.events.Event.the-variants.{Begin, Ready, GiveUp, Complete, Abort, Hear, Show}
 use Rattle.sheet.specs.Lines.{lentRoom}
 use Rattle.sheet.specs.Play.{outcome}
-use Rattle.demands.specs.Calls.{Call, begins, readies, givesUp, completes, aborts, hears, shows, answerTo, bookAfter, History, nothing, _then_}
+use Rattle.demands.specs.Calls.{Call, beginsWith, readies, givesUp, completes, aborts, hears, shows, answerTo, bookAfter, History, nothing, _then_}
 
 -- the call that an event of the sheet s asks for: a begin's program stands in the sheet, and show is lent the program's bytes
 abbrev pub callOf : List ℕ → Event → Call
-callOf s (Begin from to) = begins (take (to - from) (drop from s))
+callOf s (Begin from to) = beginsWith (take (to - from) (drop from s))
 callOf s (Ready n d) = readies (n .0) d
 callOf s (GiveUp n d) = givesUp (n .0) d
 callOf s (Complete n) = completes (n .0)
