@@ -158,3 +158,19 @@ unfolding answer written
 accepted {l} {m} {at} {end} {t} {len} e f g p =
     let enough = measured (length l) at len t e f (not-false _ g) in
     (rw enough (ap To (p .ends)), rw enough (p .holds ∙ sets-eq t l at (fits l at t e f g)))
+
+-- where there is room, a text that is written is put
+pub written-put : {l m : List ℕ} {at end : ℕ} {t : List ℕ} → at + length t ≤ length l → To end ≡ answer l at t → m ≡ written l at t → Put l m at end t
+unfolding answer written
+written-put {l} {m} {at} {end} {t} h e f =
+    let enough : leb (at + length t) (length l) ≡ true = le-leb (at + length t) (length l) h in
+    let to : To end ≡ To (at + length t) = rw enough at e in
+    record { ends = cc; holds = (rw enough at f) ∙ sym (sets-eq t l at h) }
+
+-- and it is never refused
+pub never-refused : (l : List ℕ) (at : ℕ) (t : List ℕ) → at + length t ≤ length l → NoRoom ≡ answer l at t → ⊥
+unfolding answer
+never-refused l at t h e =
+    let enough : leb (at + length t) (length l) ≡ true = le-leb (at + length t) (length l) h in
+    let to : NoRoom ≡ To (at + length t) = rw enough at e in
+    let z : _≡_ {A = ℕ} 0 1 = cc in omega arith

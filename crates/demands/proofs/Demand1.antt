@@ -24,7 +24,7 @@ use Rattle.book.proofs.Laws.Room.{give-up-room, hear-room}
 use Rattle.book.proofs.Laws.Calls.{Whole, ready-whole, give-up-whole, complete-whole, abort-whole, hear-whole, begin-whole}
 use Rattle.sheet.specs.Open.{openedSheet, openSheet}
 use Rattle.sheet.specs.Open.{refused as sheetRefused}
-use Rattle.demands.specs.Calls.{Call, begins, readies, givesUp, completes, aborts, hears, shows, answerTo, bookAfter}
+use Rattle.demands.specs.Calls.{Call, beginsWith, readies, givesUp, completes, aborts, hears, shows, answerTo, bookAfter}
 use Rattle.demands.specs.Demands.{orderOf, testsOf, firstNumber, Demand1, OneResult}
 use Rattle.demands.proofs.Invariant.{refused-book}
 
@@ -42,7 +42,7 @@ none = refl
 
 answers : (w : ℕ) (b : Book) (c : Call) → answerNumber (answerTo w b c) ≡ firstNumber (testsOf w b c) (orderOf c)
 unfolding done begin beginAnswer ready readyAnswer giveUp giveUpAnswer complete completeAnswer abort abortAnswer hear hearAnswer showAnswer
-answers w b (begins bytes) = numbered _ _ _ _ (numbered _ _ _ _ (numbered _ _ _ _ (numbered _ _ _ _ (numbered _ _ _ _ (numbered _ _ _ _ (numbered _ _ _ _ none))))))
+answers w b (beginsWith bytes) = numbered _ _ _ _ (numbered _ _ _ _ (numbered _ _ _ _ (numbered _ _ _ _ (numbered _ _ _ _ (numbered _ _ _ _ (numbered _ _ _ _ none))))))
 answers w b (readies n d) = numbered _ _ _ _ (numbered _ _ _ _ (numbered _ _ _ _ (numbered _ _ _ _ none)))
 answers w b (givesUp n d) = numbered _ _ _ _ (numbered _ _ _ _ (numbered _ _ _ _ (numbered _ _ _ _ none)))
 answers w b (completes n) = numbered _ _ _ _ (numbered _ _ _ _ (numbered _ _ _ _ (numbered _ _ _ _ none)))
@@ -53,7 +53,7 @@ answers w b (shows i buf) = numbered _ _ _ _ (numbered _ _ _ _ (numbered _ _ _ _
 -- ---- books
 
 keeps : (w : ℕ) (b : Book) (c : Call) → Whole w b → Whole w (bookAfter w b c)
-keeps w b (begins bytes) v = begin-whole w b bytes v
+keeps w b (beginsWith bytes) v = begin-whole w b bytes v
 keeps w b (readies n d) v = ready-whole w b n d v
 keeps w b (givesUp n d) v = give-up-whole w b n d v
 keeps w b (completes n) v = complete-whole w b n v

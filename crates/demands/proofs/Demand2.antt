@@ -23,7 +23,7 @@ use Rattle.book.specs.Begin.{heldAt}
 use Rattle.book.specs.Show.{shown}
 use Rattle.book.proofs.Laws.Shaped.{Shaped}
 use Rattle.book.proofs.Laws.Events.{begin-values, ready-keeps, give-up-values, complete-keeps, abort-keeps, hear-values}
-use Rattle.demands.specs.Calls.{Call, begins, readies, givesUp, completes, aborts, hears, shows, answerTo, bookAfter}
+use Rattle.demands.specs.Calls.{Call, beginsWith, readies, givesUp, completes, aborts, hears, shows, answerTo, bookAfter}
 use Rattle.demands.specs.Demands.{pendingAt, Values, isDecided, Demand2}
 use Rattle.demands.proofs.Acts.{Acts, acts-number, acts-other}
 use Rattle.demands.proofs.Tables.{ready-acts, give-up-acts, complete-acts, abort-acts, hear-acts, begin-number, begin-grant, begin-stays, ready-record, give-up-record, complete-record, abort-record, hear-record, begin-record}
@@ -51,7 +51,7 @@ row-decides w b c n o act e q h k =
 forgets : (w : ℕ) (c : Call) (b : Book) → Shaped w b → accepted (answerTo w b c) ≡ true → (q : ℕ) → q < w → isOpen (openAt b q) ≡ true
     → isOpen (openAt (bookAfter w b c) q) ≡ (not (isDecided b c q) || (someOn (bookAfter w b c) (openAt b q .number .0) || someDepends w (bookAfter w b c) q))
 unfolding needed
-forgets w (begins bytes) b t e q h k = begin-stays w b t bytes e q h k ∙ rw (or-false (decided (openAt b q)))
+forgets w (beginsWith bytes) b t e q h k = begin-stays w b t bytes e q h k ∙ rw (or-false (decided (openAt b q)))
 forgets w (readies n d) b t e q h k = let act = ready-acts w b t n d e in act .stays q h k ∙ rw (row-decided w b n (reported d (openOf w b n)) q refl)
 forgets w (givesUp n d) b t e q h k =
     let act = give-up-acts w b t n d e in

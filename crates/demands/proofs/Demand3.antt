@@ -17,8 +17,8 @@ use Rattle.book.proofs.Laws.Sound.{on-none}
 use Rattle.book.proofs.Laws.Values.{held-complete, pending-complete}
 use Rattle.book.proofs.Laws.But.{busy-on}
 use Rattle.book.proofs.Laws.Calls.{Whole}
-use Rattle.demands.specs.Calls.{Call, begins, readies, givesUp, completes, aborts, hears, shows, answerTo, numberGiven, bookAfter, History, nothing, _then_, bookOf}
-use Rattle.demands.specs.Past.{Said, asksBegin, begun, Guess, serial, pastOf}
+use Rattle.demands.specs.Calls.{Call, beginsWith, readies, givesUp, completes, aborts, hears, shows, answerTo, numberGiven, bookAfter, History, nothing, _then_, afterCalls}
+use Rattle.demands.specs.Past.{Said, asksBegin, began, Guess, serial, pastOf}
 use Rattle.demands.specs.Demands.{openingOf, districtOf, Says, Right, Serially, Demand3}
 use Rattle.demands.proofs.Tables.{begin-number}
 use Rattle.demands.proofs.Leaving.{leaves}
@@ -66,8 +66,8 @@ module _ (w : ℕ) (s₀ : ℕ → ℤ) (b : Book) (past : List Said) (v : Inv w
 
 -- ---- "Numbers are given 1, 2, 3"
 
-numbered : (w : ℕ) (s₀ : ℕ → ℤ) (b : Book) (past : List Said) → Inv w s₀ b past → (c : Call) → accepted (answerTo w b c) ≡ true → asksBegin c ≡ true → numberGiven w b c ≡ suc (begun past)
-numbered w s₀ b past v (begins bytes) e k = begin-number w b (v .whole .shaped) bytes e ∙ ap suc (v .ledger .last)
+numbered : (w : ℕ) (s₀ : ℕ → ℤ) (b : Book) (past : List Said) → Inv w s₀ b past → (c : Call) → accepted (answerTo w b c) ≡ true → asksBegin c ≡ true → numberGiven w b c ≡ suc (began past)
+numbered w s₀ b past v (beginsWith bytes) e k = begin-number w b (v .whole .shaped) bytes e ∙ ap suc (v .ledger .last)
 numbered w s₀ b past v (readies n d) e k = absurd (false≢true k)
 numbered w s₀ b past v (givesUp n d) e k = absurd (false≢true k)
 numbered w s₀ b past v (completes n) e k = absurd (false≢true k)
@@ -84,32 +84,32 @@ module _ (w districts : ℕ) (xs : List Opening) (good : goodOpening districts x
   abbrev b₀ : Book
   b₀ = opened w districts xs
 
-  history-inv : (h : History) → Inv w s₀ (bookOf w b₀ h) (pastOf w b₀ h)
+  history-inv : (h : History) → Inv w s₀ (afterCalls w b₀ h) (pastOf w b₀ h)
   history-inv nothing = opened-inv w districts xs good
-  history-inv (h then c) = call-inv w s₀ (bookOf w b₀ h) (pastOf w b₀ h) (history-inv h) c
+  history-inv (h then c) = call-inv w s₀ (afterCalls w b₀ h) (pastOf w b₀ h) (history-inv h) c
 
-  history-kept : (h : History) → Kept b₀ (bookOf w b₀ h)
+  history-kept : (h : History) → Kept b₀ (afterCalls w b₀ h)
   history-kept nothing = record { count = refl; districts = λ i h. refl }
   history-kept (h then c) =
       let before = history-kept h in
-      let once = call-kept w (bookOf w b₀ h) (history-inv h .whole) c in
+      let once = call-kept w (afterCalls w b₀ h) (history-inv h .whole) c in
       record {
         count = once .count ∙ before .count;
-        districts = λ i l. let l′ : i < bookOf w b₀ h .count = rw (before .count) l in once .districts i l′ ∙ before .districts i l;
+        districts = λ i l. let l′ : i < afterCalls w b₀ h .count = rw (before .count) l in once .districts i l′ ∙ before .districts i l;
       }
 
-  history-count : (h : History) → bookOf w b₀ h .count ≡ length xs
+  history-count : (h : History) → afterCalls w b₀ h .count ≡ length xs
   history-count h = history-kept h .count ∙ opened-count w districts xs good
 
-  serially : (h : History) → Serially w xs (bookOf w b₀ h) (pastOf w b₀ h)
+  serially : (h : History) → Serially w xs (afterCalls w b₀ h) (pastOf w b₀ h)
   serially h = record {
     sound = history-inv h .whole .sound;
     count = history-count h;
     districts = λ i l. history-kept h .districts i (rw (opened-count w districts xs good) l) ∙ opened-district w districts xs good i l;
-    right = λ g legal a says i l. item-right w s₀ (bookOf w b₀ h) (pastOf w b₀ h) (history-inv h) g legal a says i (rw (history-count h) l);
-    guess = cautious w (bookOf w b₀ h) (pastOf w b₀ h) (history-inv h .ledger);
-    says = λ g. let found = saying w (bookOf w b₀ h) g 0 in (found .0, found .1);
-    numbers = numbered w s₀ (bookOf w b₀ h) (pastOf w b₀ h) (history-inv h);
+    right = λ g legal a says i l. item-right w s₀ (afterCalls w b₀ h) (pastOf w b₀ h) (history-inv h) g legal a says i (rw (history-count h) l);
+    guess = cautious w (afterCalls w b₀ h) (pastOf w b₀ h) (history-inv h .ledger);
+    says = λ g. let found = saying w (afterCalls w b₀ h) g 0 in (found .0, found .1);
+    numbers = numbered w s₀ (afterCalls w b₀ h) (pastOf w b₀ h) (history-inv h);
   }
 
 pub demand-3 : (w : ℕ) → Demand3 w

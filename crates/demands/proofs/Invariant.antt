@@ -20,8 +20,8 @@ use Rattle.book.specs.Hear.{hearAnswer, heard, hear}
 use Rattle.book.proofs.Laws.Shaped.{Shaped}
 use Rattle.book.proofs.Laws.BeginSound.{free-place}
 use Rattle.book.proofs.Laws.Calls.{Whole, done-refused, begin-refused}
-use Rattle.demands.specs.Calls.{Call, begins, readies, givesUp, completes, aborts, hears, shows, answerTo, bookAfter}
-use Rattle.demands.specs.Past.{Said, said, asksBegin, asksComplete, wasCompleted, wasGivenUp, begun, Guess, runs, serial}
+use Rattle.demands.specs.Calls.{Call, beginsWith, readies, givesUp, completes, aborts, hears, shows, answerTo, bookAfter}
+use Rattle.demands.specs.Past.{Said, said, asksBegin, asksComplete, wasCompleted, wasGivenUp, began, Guess, runs, serial}
 use Rattle.demands.specs.Demands.{Says}
 use Rattle.demands.proofs.Acts.{Acts}
 use Rattle.demands.proofs.Tables.{ready-acts, give-up-acts, complete-acts, abort-acts, hear-acts, begin-facts, begin-after, begin-number, begin-count, begin-places}
@@ -36,7 +36,7 @@ use Rattle.demands.proofs.Beginning.{begin-chosen}
 
 pub refused-book : (w : ℕ) (b : Book) (c : Call) → accepted (answerTo w b c) ≡ false → bookAfter w b c ≡ b
 unfolding ready giveUp complete abort hear done
-refused-book w b (begins bytes) e = begin-refused w b bytes e
+refused-book w b (beginsWith bytes) e = begin-refused w b bytes e
 refused-book w b (readies n d) e = done-refused w (readyAnswer w b n d) (readied w b n d) b e
 refused-book w b (givesUp n d) e = done-refused w (giveUpAnswer w b n d) (gaveUp w b n d) b e
 refused-book w b (completes n) e = done-refused w (completeAnswer w b n) (decide w b n 1) b e
@@ -47,7 +47,7 @@ refused-book w b (shows i buf) e = refl
 -- ---- the serial run over one call more
 
 runs-other : (g : ℕ → Bool) (n : ℕ) (c : Call) (s : ℕ → ℤ) → asksBegin c ≡ false → runs g n c s ≡ s
-runs-other g n (begins bytes) s e = absurd (true≢false e)
+runs-other g n (beginsWith bytes) s e = absurd (true≢false e)
 runs-other g n (readies m d) s e = refl
 runs-other g n (givesUp m d) s e = refl
 runs-other g n (completes m) s e = refl
@@ -76,7 +76,7 @@ module _ (w : ℕ) (s₀ : ℕ → ℤ) where
 
 -- ---- a call that leaves the book and says nothing
 
-quiet-inv : (w : ℕ) (s₀ : ℕ → ℤ) (b : Book) (past : List Said) (x : Said) → ((n : ℕ) → Same past (x ∷ past) n) → begun (x ∷ past) ≡ begun past
+quiet-inv : (w : ℕ) (s₀ : ℕ → ℤ) (b : Book) (past : List Said) (x : Said) → ((n : ℕ) → Same past (x ∷ past) n) → began (x ∷ past) ≡ began past
     → ((g : ℕ → Bool) → serial g s₀ (x ∷ past) ≡ serial g s₀ past) → Inv w s₀ b past → Inv w s₀ b (x ∷ past)
 quiet-inv w s₀ b past x same count runs v = record {
   whole = v .whole;
@@ -122,13 +122,13 @@ module _ (w : ℕ) (s₀ : ℕ → ℤ) (b : Book) (past : List Said) (v : Inv w
   notLate : (x : Said) → ((m : ℕ) → asksComplete m (x .call) ≡ false) → (m : ℕ) → wasGivenUp past m ≡ true → wasCompleted past m ≡ false → wasCompleted (x ∷ past) m ≡ false
   notLate x e m k c = ever-not past x (asksComplete m) (rw (e m) (and-false (accepted (x .answer)))) ∙ c
 
-  begins-inv : (bytes : List ℕ) → accepted (begin w b bytes .answer) ≡ true → Inv w s₀ (begin w b bytes .book) (said w b (begins bytes) ∷ past)
+  begins-inv : (bytes : List ℕ) → accepted (begin w b bytes .answer) ≡ true → Inv w s₀ (begin w b bytes .book) (said w b (beginsWith bytes) ∷ past)
   unfolding serial
   begins-inv bytes e = record {
     whole = begin-after w b t bytes e;
     ledger = begin-ledger w b t past (v .ledger) bytes e;
     main = main-after (begin w b bytes .book) now (begin-after w b t bytes e) (begin-count w b t bytes e) numbers (λ g legal a says i h.
-        let before = guess-before past (said w b (begins bytes)) g legal (notLate (said w b (begins bytes)) (λ m. refl)) in
+        let before = guess-before past (said w b (beginsWith bytes)) g legal (notLate (said w b (beginsWith bytes)) (λ m. refl)) in
         begin-chosen w b t g a says bytes e (serial g s₀ past) (v .main g before a says) i h ∙ rw (e, begin-number w b t bytes e));
   }
     where
@@ -136,7 +136,7 @@ module _ (w : ℕ) (s₀ : ℕ → ℤ) (b : Book) (past : List Said) (v : Inv w
       t = v .whole .shaped
 
       now : List Said
-      now = said w b (begins bytes) ∷ past
+      now = said w b (beginsWith bytes) ∷ past
 
       numbers : (q : ℕ) → q < w → isOpen (openAt (begin w b bytes .book) q) ≡ true → isOpen (openAt b q) ≡ true → openAt (begin w b bytes .book) q .number ≡ openAt b q .number
       numbers q h k z =
@@ -146,8 +146,8 @@ module _ (w : ℕ) (s₀ : ℕ → ℤ) (b : Book) (past : List Said) (v : Inv w
 
   -- every accepted call
   accepted-inv : (c : Call) → accepted (answerTo w b c) ≡ true → Inv w s₀ (bookAfter w b c) (said w b c ∷ past)
-  unfolding begun
-  accepted-inv (begins bytes) e = begins-inv bytes e
+  unfolding began
+  accepted-inv (beginsWith bytes) e = begins-inv bytes e
   accepted-inv (readies n d) e =
       let t = v .whole .shaped in
       acts-inv _ n _ (said w b (readies n d)) (ready-acts w b t n d e) refl (ready-ledger w b t past (v .ledger) n d e) (notLate (said w b (readies n d)) (λ m. refl))
@@ -173,12 +173,12 @@ module _ (w : ℕ) (s₀ : ℕ → ℤ) (b : Book) (past : List Said) (v : Inv w
       (λ g before legal a says i h. hear-chosen w b t g a says i h past (v .ledger) n d e before)
   accepted-inv (shows i buf) e =
       quiet-inv w s₀ b past (said w b (shows i buf)) (λ n. silent-same past (said w b (shows i buf)) n refl)
-      (ap (λ (y : Bool). cond y (suc (begun past)) (begun past)) (and-false (accepted (answerTo w b (shows i buf)))))
+      (ap (λ (y : Bool). cond y (suc (began past)) (began past)) (and-false (accepted (answerTo w b (shows i buf)))))
       (λ g. serial-other g s₀ past (said w b (shows i buf)) refl) v
 
   -- every call
   pub call-inv : (c : Call) → Inv w s₀ (bookAfter w b c) (said w b c ∷ past)
-  unfolding begun
+  unfolding began
   call-inv c =
       by-cases (accepted (answerTo w b c))
       (λ e. accepted-inv c e)

@@ -18,7 +18,7 @@ use Rattle.book.proofs.Laws.Shaped.{Shaped}
 use Rattle.book.proofs.Laws.But.{sound-but}
 use Rattle.book.proofs.Laws.Forget.{forget-sound}
 use Rattle.book.proofs.Laws.Events.{ready-keeps, complete-keeps, abort-keeps}
-use Rattle.demands.specs.Calls.{Call, begins, readies, givesUp, completes, aborts, hears, shows, answerTo, bookAfter}
+use Rattle.demands.specs.Calls.{Call, beginsWith, readies, givesUp, completes, aborts, hears, shows, answerTo, bookAfter}
 use Rattle.demands.specs.Demands.{Leaves}
 use Rattle.demands.proofs.Acts.{Left, left, acts-leaves}
 use Rattle.demands.proofs.Tables.{ready-acts, give-up-acts, complete-acts, abort-acts, hear-acts, begin-last, begin-districts, begin-count, begin-rows}
@@ -32,7 +32,7 @@ show-left w b t i buf e =
     left w b b (sym (forget-sound w b s)) (sound-but w b s) t
 
 pub leaves : (w : ℕ) (c : Call) (b : Book) → Shaped w b → accepted (answerTo w b c) ≡ true → Leaves w c b (bookAfter w b c)
-leaves w (begins bytes) b t e = record {
+leaves w (beginsWith bytes) b t e = record {
   last = begin-last w b t bytes e;
   districts = begin-districts w b t bytes e;
   count = begin-count w b t bytes e;

@@ -15,8 +15,8 @@ use Rattle.book.specs.Answers.{accepted}
 use Rattle.book.specs.Book.{openAt, isOpen, placeOf}
 use Rattle.book.specs.Transactions.{openOf}
 use Rattle.book.proofs.Laws.But.{place-open}
-use Rattle.demands.specs.Calls.{Call, begins, readies, givesUp, completes, aborts, hears, shows}
-use Rattle.demands.specs.Past.{Said, asksBegin, asksReady, asksComplete, asksAbort, ever, wasReady, wasCompleted, wasAborted, givesUpEarly, wasGivenUp, begun}
+use Rattle.demands.specs.Calls.{Call, beginsWith, readies, givesUp, completes, aborts, hears, shows}
+use Rattle.demands.specs.Past.{Said, asksBegin, asksReady, asksComplete, asksAbort, ever, wasReady, wasCompleted, wasAborted, givesUpEarly, wasGivenUp, began}
 use Rattle.demands.proofs.Acts.{Acts, acts-number, acts-other}
 
 -- ---- one call more
@@ -74,7 +74,7 @@ refused-same past x e n = record {
 
 -- the number that a call speaks of is n
 abbrev pub speaksOf : ℕ → Call → Bool
-speaksOf n (begins bytes) = false
+speaksOf n (beginsWith bytes) = false
 speaksOf n (readies m d) = eqb m n
 speaksOf n (givesUp m d) = eqb m n
 speaksOf n (completes m) = eqb m n
@@ -89,7 +89,7 @@ record Silent (past : List Said) (n : ℕ) (c : Call) : Type 0 where
   gave : givesUpEarly past n c ≡ false
 
 silent : (past : List Said) (n : ℕ) (c : Call) → speaksOf n c ≡ false → Silent past n c
-silent past n (begins bytes) e = record { completed = refl; aborted = refl; ready = λ d. refl; gave = refl }
+silent past n (beginsWith bytes) e = record { completed = refl; aborted = refl; ready = λ d. refl; gave = refl }
 silent past n (readies m d) e = record { completed = refl; aborted = refl; ready = λ f. rw e; gave = refl }
 silent past n (givesUp m d) e = record { completed = refl; aborted = refl; ready = λ f. refl; gave = rw e }
 silent past n (completes m) e = record { completed = e; aborted = refl; ready = λ d. refl; gave = refl }
@@ -167,10 +167,10 @@ pub record Ledger (w : ℕ) (b : Book) (past : List Said) : Type 0 where
   pub marks : (q : ℕ) → q < w → isOpen (openAt b q) ≡ true → Marks past (b .districts) (openAt b q .number .0) (openAt b q)
   pub fresh : (n : ℕ) → b .last .0 < n → Unmarked past n
   pub once : (n : ℕ) → wasCompleted past n ≡ true → wasAborted past n ≡ false
-  pub last : b .last .0 ≡ begun past
+  pub last : b .last .0 ≡ began past
 
 -- a call that leaves the book, and says nothing
-pub quiet-ledger : (w : ℕ) (b : Book) (past : List Said) (x : Said) → ((n : ℕ) → Same past (x ∷ past) n) → begun (x ∷ past) ≡ begun past → Ledger w b past → Ledger w b (x ∷ past)
+pub quiet-ledger : (w : ℕ) (b : Book) (past : List Said) (x : Said) → ((n : ℕ) → Same past (x ∷ past) n) → began (x ∷ past) ≡ began past → Ledger w b past → Ledger w b (x ∷ past)
 quiet-ledger w b past x s count l = record {
   marks = λ q h k. same-marks past (x ∷ past) (b .districts) _ (openAt b q) (s _) (l .marks q h k);
   fresh = λ n h. same-unmarked past (x ∷ past) n (s n) (l .fresh n h);
@@ -206,7 +206,7 @@ module _ (w : ℕ) (b c : Book) (past : List Said) (l : Ledger w b past) (n : �
     notBoth e = marks .aborted ∙ ap (λ (v : ℕ). eqb v 2) (eqb-true (o .decision) 1 (sym (marks .completed) ∙ e))
 
     pub acts-ledger : Ledger w c (x ∷ past)
-    unfolding begun
+    unfolding began
     acts-ledger = record {
       marks = λ p h k.
           let row = act .opens p h k in

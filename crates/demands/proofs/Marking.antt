@@ -28,8 +28,8 @@ use Rattle.book.proofs.Laws.Shaped.{Shaped}
 use Rattle.book.proofs.Laws.Including.{including-own, member-including}
 use Rattle.book.proofs.Laws.But.{place-open, computing-on, busy-is}
 use Rattle.book.proofs.Laws.Calls.{GivesUp}
-use Rattle.demands.specs.Calls.{Call, begins, readies, givesUp, completes, aborts, hears}
-use Rattle.demands.specs.Past.{Said, said, wasReady, givesUpEarly, wasGivenUp, begun}
+use Rattle.demands.specs.Calls.{Call, beginsWith, readies, givesUp, completes, aborts, hears}
+use Rattle.demands.specs.Past.{Said, said, wasReady, givesUpEarly, wasGivenUp, began}
 use Rattle.demands.specs.Demands.{newRow}
 use Rattle.demands.proofs.Tables.{ready-facts, ready-acts, give-up-facts, give-up-acts, complete-facts, complete-acts, abort-facts, abort-acts, hear-acts, begin-last, begin-districts, begin-places}
 use Rattle.demands.proofs.Ledger.{given-up-now, silent-same, Same, Marks, Turns, same-marks, same-unmarked, Ledger, row-marks, acts-ledger}
@@ -192,10 +192,10 @@ module _ (w : ℕ) (b : Book) (t : Shaped w b) (past : List Said) (l : Ledger w 
     abbrev c : Book
     c = begin w b bytes .book
 
-    quiet : (n : ℕ) → Same past (now (begins bytes)) n
-    quiet n = silent-same past (said w b (begins bytes)) n refl
+    quiet : (n : ℕ) → Same past (now (beginsWith bytes)) n
+    quiet n = silent-same past (said w b (beginsWith bytes)) n refl
 
-    newMarks : Marks (now (begins bytes)) (b .districts) (suc (b .last .0)) (newRow b (steps bytes))
+    newMarks : Marks (now (beginsWith bytes)) (b .districts) (suc (b .last .0)) (newRow b (steps bytes))
     newMarks =
         let n = suc (b .last .0) in
         let u = l .fresh n (omega arith) in
@@ -206,8 +206,8 @@ module _ (w : ℕ) (b : Book) (t : Shaped w b) (past : List Said) (l : Ledger w 
           gave = λ k. absurd (true≢false (sym k ∙ quiet n .gave ∙ u .gave));
         }
 
-    pub begin-ledger : Ledger w (begin w b bytes .book) (now (begins bytes))
-    unfolding begun
+    pub begin-ledger : Ledger w (begin w b bytes .book) (now (beginsWith bytes))
+    unfolding began
     begin-ledger = record {
       marks = λ q h k.
           let row = begin-places w b t bytes e q h k in
@@ -216,8 +216,8 @@ module _ (w : ℕ) (b : Book) (t : Shaped w b) (past : List Said) (l : Ledger w 
           (λ z.
           let stays : openAt c q ≡ openAt b q = row ∙ rw z in
           let k′ : isOpen (openAt b q) ≡ true = rw stays at k in
-          rw (stays, begin-districts w b t bytes e) (same-marks past (now (begins bytes)) (b .districts) _ (openAt b q) (quiet _) (l .marks q h k′)));
-      fresh = λ n h. same-unmarked past (now (begins bytes)) n (quiet n) (l .fresh n (omega (arith, begin-last w b t bytes e)));
+          rw (stays, begin-districts w b t bytes e) (same-marks past (now (beginsWith bytes)) (b .districts) _ (openAt b q) (quiet _) (l .marks q h k′)));
+      fresh = λ n h. same-unmarked past (now (beginsWith bytes)) n (quiet n) (l .fresh n (omega (arith, begin-last w b t bytes e)));
       once = λ n k. quiet n .aborted ∙ l .once n (sym (quiet n .completed) ∙ k);
       last = begin-last w b t bytes e ∙ rw e (ap suc (l .last));
     }

@@ -16,7 +16,7 @@ use Rattle.book.specs.declared.Opening.{Opening}
 use Rattle.book.specs.Book.{noOpen, itemAt, openAt, isOpen}
 use Rattle.book.specs.Open.{goodOpening, openedItem, openedBook, opened}
 use Rattle.book.proofs.Laws.OpenedShaped.{opened-whole}
-use Rattle.demands.specs.Past.{ever, wasGivenUp, begun, serial}
+use Rattle.demands.specs.Past.{ever, wasGivenUp, began, serial}
 use Rattle.demands.specs.Demands.{openingOf}
 use Rattle.demands.proofs.Ledger.{Ledger}
 use Rattle.demands.proofs.Choosing.{chosen-one}
@@ -49,7 +49,7 @@ module _ (w districts : ℕ) (xs : List Opening) (good : goodOpening districts x
   free q h = rw (good, getD-replicate w q noOpen noOpen h)
 
   ledger : Ledger w (opened w districts xs) []
-  unfolding ever wasGivenUp begun opened openedBook
+  unfolding ever wasGivenUp began opened openedBook
   ledger = record {
     marks = λ q h k. absurd (false≢true (sym (free q h) ∙ k));
     fresh = λ n h. record { completed = refl; aborted = refl; ready = λ d. refl; gave = refl };

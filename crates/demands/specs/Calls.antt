@@ -13,7 +13,7 @@ use Rattle.book.specs.Show.{showAnswer}
 
 -- a call, with any arguments: a program's bytes; a transaction's number and a district; a transaction's number; an item and the buffer lent for its text
 pub data Call : Type 0 where
-  begins : List ℕ → Call
+  beginsWith : List ℕ → Call
   readies : ℕ → ℕ → Call
   givesUp : ℕ → ℕ → Call
   completes : ℕ → Call
@@ -23,7 +23,7 @@ pub data Call : Type 0 where
 
 -- the answer to a call on the book b
 abbrev pub answerTo : ℕ → Book → Call → Answer
-answerTo w b (begins bytes) = begin w b bytes .answer
+answerTo w b (beginsWith bytes) = begin w b bytes .answer
 answerTo w b (readies n d) = ready w b n d .answer
 answerTo w b (givesUp n d) = giveUp w b n d .answer
 answerTo w b (completes n) = complete w b n .answer
@@ -33,7 +33,7 @@ answerTo w b (shows i buf) = showAnswer w b i buf
 
 -- the number that it returns: begin alone returns one
 abbrev pub numberGiven : ℕ → Book → Call → ℕ
-numberGiven w b (begins bytes) = begin w b bytes .number .0
+numberGiven w b (beginsWith bytes) = begin w b bytes .number .0
 numberGiven w b (readies n d) = 0
 numberGiven w b (givesUp n d) = 0
 numberGiven w b (completes n) = 0
@@ -43,7 +43,7 @@ numberGiven w b (shows i buf) = 0
 
 -- the book that it returns; show returns none, and the next call takes the one that it was handed
 abbrev pub bookAfter : ℕ → Book → Call → Book
-bookAfter w b (begins bytes) = begin w b bytes .book
+bookAfter w b (beginsWith bytes) = begin w b bytes .book
 bookAfter w b (readies n d) = ready w b n d .book
 bookAfter w b (givesUp n d) = giveUp w b n d .book
 bookAfter w b (completes n) = complete w b n .book
@@ -58,6 +58,6 @@ pub data History : Type 0 where
   _then_ : History → Call → History
 
 -- "Each later call takes the book that the call before it returned.": the book that a history on the book b leaves
-abbrev pub bookOf : ℕ → Book → History → Book
-bookOf w b nothing = b
-bookOf w b (h then c) = bookAfter w (bookOf w b h) c
+abbrev pub afterCalls : ℕ → Book → History → Book
+afterCalls w b nothing = b
+afterCalls w b (h then c) = bookAfter w (afterCalls w b h) c

@@ -29,6 +29,7 @@ use Rattle.book.specs.declared.Step.{Step}
 use Rattle.book.specs.Answers.{answerNumber, accepted}
 use Rattle.book.specs.Book.{mostDistricts, lastNumber, noRecord, noBook, recordAt, itemAt, openAt, idle, isOpen, placeOf, freePlace, someDepends, someOn}
 use Rattle.book.specs.Programs.{steps, run, touches}
+use Rattle.book.specs.Items.{there}
 use Rattle.book.specs.Records.{computingOn, busyOn, beginRecord, readyRecord, hearRecord}
 use Rattle.book.specs.Forget.{decided, remembered}
 use Rattle.book.specs.Transactions.{unsound, notOpen, noDistrict, openOf}
@@ -44,17 +45,21 @@ use Rattle.book.specs.Show.{heldLine, showAnswer, shown}
 use Rattle.book.specs.Examples.{twice, told, Example1, Example2, Example3, Example4, Example5, Example6, Example7, Example8, Example9}
 use Rattle.book.proofs.Laws.Shaped.{Shaped}
 use Rattle.book.proofs.Laws.Calls.{Whole}
+use Rattle.sheet.specs.declared.events.Event.{Event}
 use Rattle.sheet.specs.Readers.{wrong, right}
 use Rattle.sheet.specs.Sections.{Sheet, sheet}
 use Rattle.sheet.specs.Open.{mostBytes, openSheet}
-use Rattle.demands.specs.Calls.{Call, begins, readies, givesUp, completes, aborts, hears, shows, answerTo, numberGiven, bookAfter, History, bookOf}
-use Rattle.demands.specs.Past.{Said, pastOf, asksBegin, asksComplete, asksAbort, begun, Guess, serial}
+use Rattle.sheet.specs.Output.{output}
+use Rattle.sheet.specs.Program.{byCalls}
+use Rattle.demands.specs.Calls.{Call, beginsWith, readies, givesUp, completes, aborts, hears, shows, answerTo, numberGiven, bookAfter, History, afterCalls}
+use Rattle.demands.specs.Past.{Said, pastOf, asksBegin, asksComplete, asksAbort, began, Guess, serial}
+use Rattle.demands.specs.Playing.{IsCall, bookPlayed, historyOf}
 
 -- ==== Demand 1
 
 -- "Order: 15 first. Begin: 3, 2, 5, 6, 7, 8 .. Events on a transaction: 4, 1, then 9, or 10, 11, or 12. Show: 2, 16."
 abbrev pub orderOf : Call → List ℕ
-orderOf (begins bytes) = 15 ∷ 3 ∷ 2 ∷ 5 ∷ 6 ∷ 7 ∷ 8 ∷ []
+orderOf (beginsWith bytes) = 15 ∷ 3 ∷ 2 ∷ 5 ∷ 6 ∷ 7 ∷ 8 ∷ []
 orderOf (readies n d) = 15 ∷ 4 ∷ 1 ∷ 9 ∷ []
 orderOf (givesUp n d) = 15 ∷ 4 ∷ 1 ∷ 9 ∷ []
 orderOf (completes n) = 15 ∷ 4 ∷ 10 ∷ 11 ∷ []
@@ -64,7 +69,7 @@ orderOf (shows i buf) = 15 ∷ 2 ∷ 16 ∷ []
 
 -- the document's tests for a call, in this order
 abbrev pub testsOf : ℕ → Book → Call → List Bool
-testsOf w b (begins bytes) =
+testsOf w b (beginsWith bytes) =
     unsound w b ∷ badProgram bytes ∷ someStep (outside (b .count)) (steps bytes) ∷ someBusy b (steps bytes) ∷ not (ltb (freePlace w b) w) ∷ not (ltb (b .last .0) lastNumber)
     ∷ tooMany w b (steps bytes) ∷ []
 testsOf w b (readies n d) = unsound w b ∷ notOpen w b n ∷ noDistrict b d ∷ not (computingOn n (recordAt b d)) ∷ []
@@ -164,7 +169,7 @@ rowWith b p o q = cond (eqb q p) o (openAt b q)
 
 -- the row at place q after a call, before it forgets: a transaction begins at "the lowest free" place; each event on one changes its row alone
 abbrev pub rowAfter : ℕ → Book → Call → ℕ → Open
-rowAfter w b (begins bytes) = rowWith b (freePlace w b) (newRow b (steps bytes))
+rowAfter w b (beginsWith bytes) = rowWith b (freePlace w b) (newRow b (steps bytes))
 rowAfter w b (readies n d) = rowWith b (placeOf w b n) (reported d (openOf w b n))
 rowAfter w b (givesUp n d) = rowWith b (placeOf w b n) (cond (computingOn n (recordAt b d)) (marked d (openOf w b n)) (openOf w b n))
 rowAfter w b (completes n) = rowWith b (placeOf w b n) (withDecision 1 (openOf w b n))
@@ -180,10 +185,6 @@ pub record Leaves (w : ℕ) (c : Call) (b after : Book) : Type 0 where
   pub belongs : (i : ℕ) → i < b .count → itemAt after i .district ≡ itemAt b i .district
   pub places : (q : ℕ) → q < w → openAt after q ≡ remembered w after q (rowAfter w b c q)
 
--- item i is in district d
-abbrev pub isIn : Book → ℕ → ℕ → Bool
-isIn b d i = eqb (itemAt b i .district) d
-
 -- the transaction at place q is decided, before the call c or by it
 abbrev pub isDecided : Book → Call → ℕ → Bool
 isDecided b c q = decided (openAt b q) || (asksComplete (openAt b q .number .0) c || asksAbort (openAt b q .number .0) c)
@@ -195,18 +196,18 @@ pub record Demand2 (w : ℕ) : Type 0 where
   -- "Two polyvalues that choose alike under all of document 01's assignments, also those a decision has ruled out, are the same pairs."
   pub unique : (ps qs : List Pair) → Complete w ps → Complete w qs → ((a : ℕ) → a < 2 ^ w → at ps a ≡ at qs a) → ps ≡ qs
   -- "Beginning": "For each of the 64 assignments run the program on the held values chosen by it. The results are the touched items' pending polyvalues."
-  pub beginning : (bytes : List ℕ) → Accepts w (begins bytes) (λ b after. EachValue w b (λ a i.
+  pub beginning : (bytes : List ℕ) → Accepts w (beginsWith bytes) (λ b after. EachValue w b (λ a i.
       Values after a i (heldAt b a i) (cond (touches (steps bytes) i) (run (steps bytes) (heldAt b a) i) (pendingAt b a i))))
-  pub beginningRecords : (bytes : List ℕ) → Accepts w (begins bytes) (λ b after. Records b after (λ d.
+  pub beginningRecords : (bytes : List ℕ) → Accepts w (beginsWith bytes) (λ b after. Records b after (λ d.
       cond (touchesDistrict b (steps bytes) d) (beginRecord (suc (b .last .0))) (recordAt b d)))
   -- "The answer is the number and a grant: 1 if no assignment declines, 0 if all do, 2 otherwise."
-  pub beginningAnswer : (bytes : List ℕ) → Accepts w (begins bytes) (λ b after. (begin w b bytes .number .0 ≡ suc (b .last .0)) × (begin w b bytes .grant ≡ grant w b (steps bytes)))
+  pub beginningAnswer : (bytes : List ℕ) → Accepts w (beginsWith bytes) (λ b after. (begin w b bytes .number .0 ≡ suc (b .last .0)) × (begin w b bytes .grant ≡ grant w b (steps bytes)))
   -- "readiness"
   pub readiness : (n d : ℕ) → Accepts w (readies n d) (λ b after. EachValue w b (λ a i. Values after a i (heldAt b a i) (pendingAt b a i)))
   pub readinessRecords : (n d : ℕ) → Accepts w (readies n d) (λ b after. Records b after (λ e. cond (eqb e d) (readyRecord (recordAt b e)) (recordAt b e)))
   -- "giving up"
   pub givingUp : (n d : ℕ) → Accepts w (givesUp n d) (λ b after. EachValue w b (λ a i.
-      Values after a i (cond (isIn b d i) (givenUpAt w b n d a i) (heldAt b a i)) (cond (isIn b d i) (givenUpAt w b n d a i) (pendingAt b a i))))
+      Values after a i (cond (there d (itemAt b i)) (givenUpAt w b n d a i) (heldAt b a i)) (cond (there d (itemAt b i)) (givenUpAt w b n d a i) (pendingAt b a i))))
   pub givingUpRecords : (n d : ℕ) → Accepts w (givesUp n d) (λ b after. Records b after (λ e. cond (eqb e d) noRecord (recordAt b e)))
   -- "decision"
   pub completing : (n : ℕ) → Accepts w (completes n) (λ b after. EachValue w b (λ a i. Values after a i (heldAt b a i) (pendingAt b a i)))
@@ -215,7 +216,7 @@ pub record Demand2 (w : ℕ) : Type 0 where
   pub abortingRecords : (n : ℕ) → Accepts w (aborts n) (λ b after. Records b after (recordAt b))
   -- "hearing"
   pub hearing : (n d : ℕ) → Accepts w (hears n d) (λ b after. EachValue w b (λ a i.
-      Values after a i (cond (isIn b d i) (heardAt w b n d (heldAt b) a i) (heldAt b a i)) (cond (isIn b d i) (heardAt w b n d (pendingAt b) a i) (pendingAt b a i))))
+      Values after a i (cond (there d (itemAt b i)) (heardAt w b n d (heldAt b) a i) (heldAt b a i)) (cond (there d (itemAt b i)) (heardAt w b n d (pendingAt b) a i) (pendingAt b a i))))
   pub hearingRecords : (n d : ℕ) → Accepts w (hears n d) (λ b after. Records b after (λ e. cond (eqb e d) (hearRecord n (recordAt b e)) (recordAt b e)))
   -- the last number, the counts, the items' districts and the places
   pub leaving : (c : Call) → Accepts w c (Leaves w c)
@@ -267,20 +268,31 @@ pub record Serially (w : ℕ) (xs : List Opening) (b : Book) (past : List Said) 
   pub guess : (g : ℕ → Bool) × Guess past g
   pub says : (g : ℕ → Bool) → (a : ℕ) × Says w b g a
   -- "Numbers are given 1, 2, 3": so no two transactions share a guess
-  pub numbers : (c : Call) → accepted (answerTo w b c) ≡ true → asksBegin c ≡ true → numberGiven w b c ≡ suc (begun past)
+  pub numbers : (c : Call) → accepted (answerTo w b c) ≡ true → asksBegin c ≡ true → numberGiven w b c ≡ suc (began past)
 
 -- "After any calls on an opened book, refusals among them, .."
 abbrev pub Demand3 : ℕ → Type 0
 Demand3 w =
     (districts : ℕ) (xs : List Opening) → goodOpening districts xs ≡ true
-    → (h : History) → Serially w xs (bookOf w (opened w districts xs) h) (pastOf w (opened w districts xs) h)
+    → (h : History) → Serially w xs (afterCalls w (opened w districts xs) h) (pastOf w (opened w districts xs) h)
 
 -- "Only a good sheet opens a book" (document 01, Events): a sheet that is accepted was read, what it says opens its book, and so all of that holds after any calls on it
 abbrev pub OnSheets : ℕ → Type 0
 OnSheets w =
     (s : List ℕ) → accepted (openSheet w s .answer) ≡ true
     → (x : Sheet) × (at : ℕ) × (rest : List ℕ) × (sheet s ≡ right x at rest)
-    × ((h : History) → Serially w (x .items) (bookOf w (openSheet w s .book) h) (pastOf w (openSheet w s .book) h))
+    × ((h : History) → Serially w (x .items) (afterCalls w (openSheet w s .book) h) (pastOf w (openSheet w s .book) h))
+
+-- and so it holds of every book that the program comes to
+pub record OnProgram (w : ℕ) : Type 0 where
+  -- what it prints, as it opens the sheet and plays the events that it finds in it one by one, is `output`
+  pub prints : (s : List ℕ) → byCalls w s ≡ output w s
+  -- each event that it plays is a call: on any book, and whatever stands in the sheet
+  pub calls : (b : Book) (s : List ℕ) (e : Event) → IsCall w b s e
+  -- so the book after any events of a sheet that is accepted, as far as they were played, is the book after these calls
+  pub books : (s : List ℕ) → accepted (openSheet w s .answer) ≡ true
+      → (x : Sheet) × (at : ℕ) × (rest : List ℕ) × (sheet s ≡ right x at rest)
+      × ((es : List Event) → Serially w (x .items) (bookPlayed w (openSheet w s .book) s es) (pastOf w (openSheet w s .book) (historyOf s es)))
 
 -- ==== "Marked examples (prove these ten)"
 
@@ -300,4 +312,5 @@ pub record Demands : Type 1 where
   pub two : (w : ℕ) → Demand2 w
   pub three : (w : ℕ) → Demand3 w
   pub onSheets : (w : ℕ) → OnSheets w
+  pub onProgram : (w : ℕ) → OnProgram w
   pub examples : MarkedExamples

@@ -1,3 +1,4 @@
 pub mod Calls
 pub mod Past
+pub mod Playing
 pub mod Demands

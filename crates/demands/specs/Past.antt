@@ -9,7 +9,7 @@ use Rattle.book.specs.declared.Answer.{Answer}
 use Rattle.book.specs.declared.Book.{Book}
 use Rattle.book.specs.Answers.{accepted}
 use Rattle.book.specs.Programs.{steps, run}
-use Rattle.demands.specs.Calls.{Call, begins, readies, givesUp, completes, aborts, hears, shows, answerTo, numberGiven, History, nothing, _then_, bookOf}
+use Rattle.demands.specs.Calls.{Call, beginsWith, readies, givesUp, completes, aborts, hears, shows, answerTo, numberGiven, History, nothing, _then_, afterCalls}
 
 -- one call of the past, what it was answered, and the number that it returned
 pub record Said : Type 0 where
@@ -24,13 +24,13 @@ said w b c = record { call = c; answer = answerTo w b c; number = numberGiven w 
 -- all calls of a history on the book b, the latest first
 abbrev pub pastOf : ℕ → Book → History → List Said
 pastOf w b nothing = []
-pastOf w b (h then c) = said w (bookOf w b h) c ∷ pastOf w b h
+pastOf w b (h then c) = said w (afterCalls w b h) c ∷ pastOf w b h
 
 -- ---- what a call asks
 
 -- it begins a transaction
 abbrev pub asksBegin : Call → Bool
-asksBegin (begins bytes) = true
+asksBegin (beginsWith bytes) = true
 asksBegin (readies n d) = false
 asksBegin (givesUp n d) = false
 asksBegin (completes n) = false
@@ -40,7 +40,7 @@ asksBegin (shows i buf) = false
 
 -- the district d is ready for the transaction number n
 abbrev pub asksReady : ℕ → ℕ → Call → Bool
-asksReady n d (begins bytes) = false
+asksReady n d (beginsWith bytes) = false
 asksReady n d (readies m e) = eqb m n && eqb e d
 asksReady n d (givesUp m e) = false
 asksReady n d (completes m) = false
@@ -50,7 +50,7 @@ asksReady n d (shows i buf) = false
 
 -- complete the transaction number n
 abbrev pub asksComplete : ℕ → Call → Bool
-asksComplete n (begins bytes) = false
+asksComplete n (beginsWith bytes) = false
 asksComplete n (readies m d) = false
 asksComplete n (givesUp m d) = false
 asksComplete n (completes m) = eqb m n
@@ -60,7 +60,7 @@ asksComplete n (shows i buf) = false
 
 -- abort it
 abbrev pub asksAbort : ℕ → Call → Bool
-asksAbort n (begins bytes) = false
+asksAbort n (beginsWith bytes) = false
 asksAbort n (readies m d) = false
 asksAbort n (givesUp m d) = false
 asksAbort n (completes m) = false
@@ -89,7 +89,7 @@ wasAborted past n = ever (asksAbort n) past
 
 -- a call, with these calls before it, has a district give up on the transaction number n that had not reported ready for it
 abbrev pub givesUpEarly : List Said → ℕ → Call → Bool
-givesUpEarly before n (begins bytes) = false
+givesUpEarly before n (beginsWith bytes) = false
 givesUpEarly before n (readies m d) = false
 givesUpEarly before n (givesUp m d) = eqb m n && not (wasReady before n d)
 givesUpEarly before n (completes m) = false
@@ -103,9 +103,9 @@ wasGivenUp [] n = false
 wasGivenUp (x ∷ before) n = accepted (x .answer) && givesUpEarly before n (x .call) || wasGivenUp before n
 
 -- how many transactions began
-unfoldable pub begun : List Said → ℕ
-begun [] = 0
-begun (x ∷ before) = cond (accepted (x .answer) && asksBegin (x .call)) (suc (begun before)) (begun before)
+unfoldable pub began : List Said → ℕ
+began [] = 0
+began (x ∷ before) = cond (accepted (x .answer) && asksBegin (x .call)) (suc (began before)) (began before)
 
 -- ---- a guess
 
@@ -118,7 +118,7 @@ pub record Guess (past : List Said) (g : ℕ → Bool) : Type 0 where
 
 -- what a call makes of a state that gives each item's value, where it was accepted and returned the number n: a begin runs its program, if n is guessed complete
 abbrev pub runs : (ℕ → Bool) → ℕ → Call → (ℕ → ℤ) → ℕ → ℤ
-runs g n (begins bytes) s = cond (g n) (run (steps bytes) s) s
+runs g n (beginsWith bytes) s = cond (g n) (run (steps bytes) s) s
 runs g n (readies m d) s = s
 runs g n (givesUp m d) s = s
 runs g n (completes m) s = s

@@ -6,18 +6,17 @@ use Prim.Native.Nat.{ℕ, suc, _+_, _-_, _≤_, _<_}
 use Prim.Native.Char.{code}
 use native.Mathlib.Numerals.{add-one}
 use native.Mathlib.Omega.{arith}
-use lib.Dec.{T, leb}
+use lib.Dec.{T}
 use lib.IntN.{ℤ, pos, negsuc, natAbs}
 use lib.ListN.{length, getD, drop, length-append, drop-of-length-le}
-use lib.Seq.{sets-eq, drop-cons}
+use lib.Seq.{drop-cons}
 use lib.Signed.{nonNeg}
 use mir.Facts.{toZ-ofZ}
 use mir.Syntax.{w16}
 use mir.Val.{SFits, ofZ, toZ}
-use borrow.Author.Tests.{le-leb, lt-ltb, ltb-true}
-use Rattle.conditions.specs.declared.text.Written.the-variants.{To, NoRoom}
+use borrow.Author.Tests.{lt-ltb, ltb-true}
 use Rattle.conditions.specs.Text.{bytes, decimal, prefixed, conditionText}
-use Rattle.conditions.specs.Written.{answer, written, Put}
+use Rattle.conditions.specs.Written.{Put}
 use Rattle.conditions.proofs.Putting.{put-none, put-then, put-length}
 use Rattle.polyvalues.specs.declared.polyvalue.Pair.{Pair}
 use Rattle.polyvalues.specs.declared.polyvalue.Polyvalue.{Polyvalue}
@@ -26,22 +25,6 @@ use Rattle.polyvalues.specs.Pairs.{assignments, noPair}
 use Rattle.polyvalues.specs.Polyvalues.{inUse}
 use Rattle.polyvalues.specs.Text.{pairText, lineText}
 use Rattle.polyvalues.proofs.Joining.{in-use-row}
-
--- ---- what the layer below writes: where there is room it is put, and never refused
-
-pub written-put : {l m : List ℕ} {at end : ℕ} {t : List ℕ} → at + length t ≤ length l → To end ≡ answer l at t → m ≡ written l at t → Put l m at end t
-unfolding answer written
-written-put {l} {m} {at} {end} {t} h e f =
-    let enough : leb (at + length t) (length l) ≡ true = le-leb (at + length t) (length l) h in
-    let to : To end ≡ To (at + length t) = rw enough at e in
-    record { ends = cc; holds = (rw enough at f) ∙ sym (sets-eq t l at h) }
-
-pub never-refused : (l : List ℕ) (at : ℕ) (t : List ℕ) → at + length t ≤ length l → NoRoom ≡ answer l at t → ⊥
-unfolding answer
-never-refused l at t h e =
-    let enough : leb (at + length t) (length l) ≡ true = le-leb (at + length t) (length l) h in
-    let to : NoRoom ≡ To (at + length t) = rw enough at e in
-    let z : _≡_ {A = ℕ} 0 1 = cc in omega arith
 
 -- ---- a value: its sign, and its distance from zero
 

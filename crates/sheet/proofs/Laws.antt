@@ -1,4 +1,6 @@
 -- What is true of the definitions in specs/. The crates above cite these laws and open no definition.
 pub mod Show
 pub mod Open
+pub mod Places
+pub mod Walk
 pub mod Sample

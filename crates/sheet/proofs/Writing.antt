@@ -12,7 +12,7 @@ use borrow.Author.Tests.{le-leb, lt-leb}
 use Rattle.conditions.proofs.Laws.Below.{by-cases}
 use Rattle.conditions.specs.declared.text.Written.the-variants.{To, NoRoom}
 use Rattle.conditions.specs.Text.{bytes, digits, decimal, prefixed, joined}
-use Rattle.conditions.specs.Written.{answer, written, Put}
+use Rattle.conditions.specs.Written.{written, Put}
 use Rattle.conditions.proofs.Laws.Text.{decimal-le, decimal-one}
 use Rattle.conditions.proofs.Putting.{put-length}
 use Rattle.book.specs.declared.Answer.{Answer}
@@ -20,22 +20,6 @@ use Rattle.book.specs.declared.Answer.the-variants.{Accepted}
 use Rattle.book.specs.Answers.{answerNumber, accepted}
 use Rattle.sheet.specs.Lines.{line, eventLine, refusalLine, lentRoom, longestLine, lineAnswer, lineWritten}
 use Rattle.sheet.specs.Plays.{field, head}
-
--- ---- what the layers below write: where there is room it is put, and never refused
-
-pub written-put : {l m : List ℕ} {at end : ℕ} {t : List ℕ} → at + length t ≤ length l → To end ≡ answer l at t → m ≡ written l at t → Put l m at end t
-unfolding answer written
-written-put {l} {m} {at} {end} {t} h e f =
-    let enough : leb (at + length t) (length l) ≡ true = le-leb (at + length t) (length l) h in
-    let to : To end ≡ To (at + length t) = rw enough at e in
-    record { ends = cc; holds = (rw enough at f) ∙ sym (sets-eq t l at h) }
-
-pub never-refused : (l : List ℕ) (at : ℕ) (t : List ℕ) → at + length t ≤ length l → NoRoom ≡ answer l at t → ⊥
-unfolding answer
-never-refused l at t h e =
-    let enough : leb (at + length t) (length l) ≡ true = le-leb (at + length t) (length l) h in
-    let to : NoRoom ≡ To (at + length t) = rw enough at e in
-    let z : _≡_ {A = ℕ} 0 1 = cc in omega arith
 
 -- ---- the bytes from a place up to another
 

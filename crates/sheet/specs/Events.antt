@@ -28,7 +28,7 @@ onNumber event at s = andThen (word any at s) (λ n at s. right (event (record {
 unfoldable pub ofItem : ℕ → List ℕ → Read Event
 ofItem at s = andThen (byte any at s) (λ i at s. right (Show i) at s)
 
--- what stands behind an event's kind
+-- what stands behind an event's kind, where it is one of these; hear is the one left
 unfoldable pub fields : ℕ → ℕ → List ℕ → Read Event
 fields kind at s =
     cond (eqb kind 1) (program at s)
@@ -36,7 +36,7 @@ fields kind at s =
     (cond (eqb kind 3) (atDistrict GiveUp at s)
     (cond (eqb kind 4) (onNumber Complete at s)
     (cond (eqb kind 5) (onNumber Abort at s)
-    (cond (eqb kind 6) (atDistrict Hear at s) (ofItem at s))))))
+    (cond (eqb kind 7) (ofItem at s) (atDistrict Hear at s))))))
 
 -- an event: a kind that is none of these is a wrong byte
 unfoldable pub event : ℕ → List ℕ → Read Event

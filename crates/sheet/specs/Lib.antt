@@ -7,4 +7,5 @@ pub mod Lines
 pub mod Play
 pub mod Plays
 pub mod Output
+pub mod Program
 pub mod Sample

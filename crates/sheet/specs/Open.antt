@@ -1,6 +1,6 @@
 -- "Open. Only a good sheet opens a book" (document 01, Events), "13: sheet malformed", "14: sheet over 32,768 bytes" and "a call that makes a book returns, refused, the
 -- all-zero book" (Answer numbers), "14 comes before 13, place 0" (The sheet and the program)
-use mathlib.Core.Bool.{cond}
+use mathlib.Core.Bool.{Bool, cond}
 use mathlib.Core.List.{List}
 use Prim.Native.Nat.{ℕ}
 use lib.Dec.{ltb}
@@ -17,6 +17,9 @@ use Rattle.sheet.specs.Sections.{Sheet, sheet}
 abbrev pub mostBytes : ℕ
 mostBytes = 32768
 
+abbrev pub tooLong : List ℕ → Bool
+tooLong s = ltb mostBytes (length s)
+
 -- refused: the number and the place
 unfoldable pub refused : ℕ → Answer → ℕ → Opened
 refused w answer place = record { answer = answer; place = place; book = noBook w; first = 0; count = 0 }
@@ -29,4 +32,4 @@ openedSheet w (right x at s) =
 
 -- the call: the sheet's bytes
 unfoldable pub openSheet : ℕ → List ℕ → Opened
-openSheet w s = cond (ltb mostBytes (length s)) (refused w TooLong 0) (openedSheet w (sheet s))
+openSheet w s = cond (tooLong s) (refused w TooLong 0) (openedSheet w (sheet s))

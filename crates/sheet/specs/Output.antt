@@ -3,15 +3,13 @@
 use mathlib.Core.Bool.{cond}
 use mathlib.Core.List.{List, [], _∷_, _++_}
 use Prim.Native.Nat.{ℕ, suc}
-use lib.Dec.{ltb}
-use lib.ListN.{length}
 use Rattle.book.specs.declared.Answer.the-variants.{Malformed, TooLong}
 use Rattle.book.specs.declared.Book.{Book}
 use Rattle.book.specs.Open.{opened}
 use Rattle.sheet.specs.declared.events.Event.{Event}
 use Rattle.sheet.specs.Readers.{Read, wrong, right}
 use Rattle.sheet.specs.Sections.{Sheet, sheet}
-use Rattle.sheet.specs.Open.{mostBytes}
+use Rattle.sheet.specs.Open.{tooLong}
 use Rattle.sheet.specs.Lines.{refusalLine, endLine}
 use Rattle.sheet.specs.Play.{Outcome, outcome, outcomeLine}
 
@@ -28,4 +26,4 @@ printed w s (right x at rest) = eventLines w (opened w (x .districts) (x .items)
 
 -- the program: the sheet's bytes
 unfoldable pub output : ℕ → List ℕ → List ℕ
-output w s = cond (ltb mostBytes (length s)) (refusalLine TooLong 0) (printed w s (sheet s))
+output w s = cond (tooLong s) (refusalLine TooLong 0) (printed w s (sheet s))

@@ -3,11 +3,8 @@ use mathlib.Core.Path.{_≡_}
 use mathlib.Core.Bool.{Bool, cond}
 use mathlib.Core.List.{List}
 use Prim.Native.Nat.{ℕ}
-use lib.Dec.{eqb}
 use lib.ListN.{drop}
-use Rattle.conditions.specs.declared.place.TransactionNumber.{TransactionNumber}
 use Rattle.sheet.specs.declared.events.Event.{Event}
-use Rattle.sheet.specs.declared.events.Event.the-variants.{Ready, GiveUp, Complete, Abort, Hear}
 use Rattle.sheet.specs.declared.events.EventAt.{EventAt}
 use Rattle.sheet.specs.declared.events.EventAt.the-variants.{Read as Found, Wrong}
 use Rattle.sheet.specs.Readers.{Read, wrong, right}
@@ -20,10 +17,3 @@ pub record Told {A : Type 0} (r : Read A) (s : List ℕ) (good : Bool) (place : 
 abbrev pub toldEvent : List ℕ → EventAt → Read Event
 toldEvent s (Found e next) = right e next (drop next s)
 toldEvent s (Wrong place) = wrong place
-
--- the events at a district, and those on a number alone, by their kind
-abbrev pub districtEvent : ℕ → TransactionNumber → ℕ → Event
-districtEvent kind = cond (eqb kind 2) Ready (cond (eqb kind 3) GiveUp Hear)
-
-abbrev pub numberEvent : ℕ → TransactionNumber → Event
-numberEvent kind = cond (eqb kind 4) Complete Abort

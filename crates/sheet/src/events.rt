@@ -1,8 +1,8 @@
 // The events of a sheet, each by the place where it stands.
 ghost use mathlib.Core.Path.{_≡_};
 ghost use lib.ListN.{drop};
-ghost use Rattle.sheet.specs.Events.{program, atDistrict, onNumber, ofItem, fields, event, eventAt};
-ghost use Rattle.sheet.specs.Told.{districtEvent, numberEvent, toldEvent};
+ghost use Rattle.sheet.specs.Events.{program, ofItem, fields, event, eventAt};
+ghost use Rattle.sheet.specs.Told.{toldEvent};
 use crate::readers::byte;
 use crate::readers::byte_between;
 use crate::readers::part;
@@ -64,19 +64,55 @@ fn program(sheet: &[u8], at: usize) -> EventAt
     }
 }
 
-// Ready, give up or hear: a transaction number and a district.
-fn at_district(sheet: &[u8], at: usize, kind: usize) -> EventAt
-    ensures { λ r. ⌜ atDistrict (districtEvent kind) at (drop at (now (sheet .entry))) ≡ toldEvent (now (sheet .entry)) r ⌝ }
+// Show: an item.
+fn of_item(sheet: &[u8], at: usize) -> EventAt
+    ensures { λ r. ⌜ ofItem at (drop at (now (sheet .entry))) ≡ toldEvent (now (sheet .entry)) r ⌝ }
 {
+    let i = byte(sheet, at);
+    if !i.good {
+        return EventAt::Wrong(i.place);
+    }
+    let item = i.number as u8;
+    EventAt::Read {
+        event: Event::Show { item },
+        next: i.place,
+    }
+}
+
+// What stands behind an event's kind: but for begin and show a transaction number, and but for
+// complete and abort a district behind it.
+fn fields(sheet: &[u8], at: usize, kind: usize) -> EventAt
+    ensures { λ r. ⌜ fields kind at (drop at (now (sheet .entry))) ≡ toldEvent (now (sheet .entry)) r ⌝ }
+{
+    if kind == 1 {
+        return program(sheet, at);
+    }
+    if kind == 7 {
+        return of_item(sheet, at);
+    }
     let n = word(sheet, at);
     if !n.good {
         return EventAt::Wrong(n.place);
     }
-    let d = byte(sheet, n.place);
+    let serial = n.number as u16;
+    let number = TransactionNumber(serial);
+    let behind = n.place;
+    if kind == 4 {
+        return EventAt::Read {
+            event: Event::Complete { number },
+            next: behind,
+        };
+    }
+    if kind == 5 {
+        return EventAt::Read {
+            event: Event::Abort { number },
+            next: behind,
+        };
+    }
+    let d = byte(sheet, behind);
     if !d.good {
         return EventAt::Wrong(d.place);
     }
-    let number = TransactionNumber(n.number as u16);
     let district = d.number as u8;
     let next = d.place;
     if kind == 2 {
@@ -95,68 +131,6 @@ fn at_district(sheet: &[u8], at: usize, kind: usize) -> EventAt
         event: Event::Hear { number, district },
         next,
     }
-}
-
-// Complete or abort: a transaction number.
-fn on_number(sheet: &[u8], at: usize, kind: usize) -> EventAt
-    ensures { λ r. ⌜ onNumber (numberEvent kind) at (drop at (now (sheet .entry))) ≡ toldEvent (now (sheet .entry)) r ⌝ }
-{
-    let n = word(sheet, at);
-    if !n.good {
-        return EventAt::Wrong(n.place);
-    }
-    let number = TransactionNumber(n.number as u16);
-    let next = n.place;
-    if kind == 4 {
-        return EventAt::Read {
-            event: Event::Complete { number },
-            next,
-        };
-    }
-    EventAt::Read {
-        event: Event::Abort { number },
-        next,
-    }
-}
-
-// Show: an item.
-fn of_item(sheet: &[u8], at: usize) -> EventAt
-    ensures { λ r. ⌜ ofItem at (drop at (now (sheet .entry))) ≡ toldEvent (now (sheet .entry)) r ⌝ }
-{
-    let i = byte(sheet, at);
-    if !i.good {
-        return EventAt::Wrong(i.place);
-    }
-    let item = i.number as u8;
-    EventAt::Read {
-        event: Event::Show { item },
-        next: i.place,
-    }
-}
-
-// What stands behind an event's kind.
-fn fields(sheet: &[u8], at: usize, kind: usize) -> EventAt
-    ensures { λ r. ⌜ fields kind at (drop at (now (sheet .entry))) ≡ toldEvent (now (sheet .entry)) r ⌝ }
-{
-    if kind == 1 {
-        return program(sheet, at);
-    }
-    if kind == 2 {
-        return at_district(sheet, at, kind);
-    }
-    if kind == 3 {
-        return at_district(sheet, at, kind);
-    }
-    if kind == 4 {
-        return on_number(sheet, at, kind);
-    }
-    if kind == 5 {
-        return on_number(sheet, at, kind);
-    }
-    if kind == 6 {
-        return at_district(sheet, at, kind);
-    }
-    of_item(sheet, at)
 }
 
 // What stands at a place of the sheet.

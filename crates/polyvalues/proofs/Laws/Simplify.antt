@@ -1,5 +1,5 @@
 -- A list of pairs simplified has the same relation of assignments and values, and is simple.
-use mathlib.Core.Path.{_≡_, refl, sym, ap₂, _∙_}
+use mathlib.Core.Path.{_≡_, refl, sym, _∙_}
 use mathlib.Core.Bool.{Bool, true, false, _&&_, _||_, or-false}
 use mathlib.Core.List.{List, [], _∷_}
 use Prim.Native.Nat.{ℕ, _+_, _^_, _≤_, _<_}
@@ -12,14 +12,10 @@ use Rattle.conditions.proofs.Laws.Below.{and-left, and-right}
 use Rattle.polyvalues.specs.declared.polyvalue.Pair.{Pair}
 use Rattle.polyvalues.specs.Values.{equal}
 use Rattle.polyvalues.specs.Pairs.{pair, assignments, applies}
-use Rattle.polyvalues.specs.Polyvalues.{each, ofPlaces, proper, Simple}
+use Rattle.polyvalues.specs.Polyvalues.{each, ofPlaces, Simple}
 use Rattle.polyvalues.specs.Simplify.{join, simplifiedFrom, simplified}
-use Rattle.polyvalues.proofs.Laws.Holds.{holds, same-holds}
+use Rattle.polyvalues.proofs.Laws.Holds.{holds}
 use Rattle.polyvalues.proofs.Laws.Join.{holds-join, each-join, simple-join, length-join, grows-join}
-
-each-then : (f g : Pair → Bool) → ((p : Pair) → f p ≡ true → g p ≡ true) → (ps : List Pair) → each f ps ≡ true → each g ps ≡ true
-each-then f g then [] e = refl
-each-then f g then (p ∷ ps) e = ap₂ _&&_ (then p (and-left (f p) _ e)) (each-then f g then ps (and-right (f p) _ e))
 
 pub nothing-simple : (w : ℕ) → Simple w []
 nothing-simple w = record { rising = refl; conditions = refl }
@@ -49,12 +45,6 @@ simple-from w qs (p ∷ ps) e s =
 pub simple-simplified : (w : ℕ) (ps : List Pair) → each (ofPlaces w) ps ≡ true → Simple w (simplified w ps)
 unfolding simplified
 simple-simplified w ps e = simple-from w [] ps e (nothing-simple w)
-
--- a simple list is its own simplification
-pub simplified-own : (w : ℕ) (ps : List Pair) → Simple w ps → simplified w ps ≡ ps
-simplified-own w ps s =
-    same-holds w (simplified w ps) ps (simple-simplified w ps (each-then (proper w) (ofPlaces w) (λ p e. and-left (ofPlaces w p) _ e) ps (s .conditions))) s
-    (holds-simplified w ps)
 
 -- what is true of each pair, and of the union of two, is true of each pair of the simplification
 module _ (w : ℕ) (f : Pair → Bool) (both : (p q : Pair) → f p ≡ true → f q ≡ true → f (pair (p .value) (union w (assignments p) (assignments q))) ≡ true) where

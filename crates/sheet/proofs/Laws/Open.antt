@@ -17,15 +17,15 @@ use Rattle.book.proofs.Laws.Calls.{Whole}
 use Rattle.book.proofs.Laws.OpenedShaped.{opened-whole}
 use Rattle.sheet.specs.Readers.{Read, wrong, right, andThen, repeat, byte, word, between, end}
 use Rattle.sheet.specs.Sections.{Sheet, code, districts, value, item, itemMore, items, events, sheet}
-use Rattle.sheet.specs.Open.{mostBytes, refused, openedSheet, openSheet}
+use Rattle.sheet.specs.Open.{tooLong, refused, openedSheet, openSheet}
 
 -- ---- what a reader that found nothing wrong has read
 
-no-read : {A : Type 0} {X : Type 0} {place at : ℕ} {x : A} {l : List ℕ} → wrong place ≡ right x at l → X
+pub no-read : {A : Type 0} {X : Type 0} {place at : ℕ} {x : A} {l : List ℕ} → wrong place ≡ right x at l → X
 no-read e = let z : _≡_ {A = ℕ} 0 1 = cc in absurd (omega arith)
 
 -- where two readers found nothing wrong, the first did not
-first-read : {A B : Type 0} (r : Read A) (more : A → ℕ → List ℕ → Read B) {y : B} {at : ℕ} {l : List ℕ} → andThen r more ≡ right y at l
+pub first-read : {A B : Type 0} (r : Read A) (more : A → ℕ → List ℕ → Read B) {y : B} {at : ℕ} {l : List ℕ} → andThen r more ≡ right y at l
     → (x : A) × (next : ℕ) × (rest : List ℕ) × (r ≡ right x next rest) × (more x next rest ≡ right y at l)
 first-read (wrong place) more e = no-read e
 first-read (right x next rest) more e = (x, next, rest, refl, e)
@@ -77,7 +77,7 @@ items-good count (suc n) got at l e g =
 
 -- ---- the sheet
 
-all-read : {A : Type 0} (y : A) (at : ℕ) (l : List ℕ) {x : A} {next : ℕ} {rest : List ℕ} → end y at l ≡ right x next rest → y ≡ x
+pub all-read : {A : Type 0} (y : A) (at : ℕ) (l : List ℕ) {x : A} {next : ℕ} {rest : List ℕ} → end y at l ≡ right x next rest → y ≡ x
 unfolding end
 all-read y at [] e = cc
 all-read y at (b ∷ l) e = no-read e
@@ -106,7 +106,7 @@ module _ (w : ℕ) (s : List ℕ) where
   pub sheet-opens : accepted (openSheet w s .answer) ≡ true
       → (x : Sheet) × (at : ℕ) × (rest : List ℕ) × (sheet s ≡ right x at rest) × (goodOpening (x .districts) (x .items) ≡ true) × (openSheet w s .book ≡ opened w (x .districts) (x .items))
   unfolding openSheet openedSheet refused
-  sheet-opens e = by-cases (ltb mostBytes (length s)) (λ t. absurd (false≢true (rw t at e))) (λ t. rw t (go (sheet s) refl (rw t at e)))
+  sheet-opens e = by-cases (tooLong s) (λ t. absurd (false≢true (rw t at e))) (λ t. rw t (go (sheet s) refl (rw t at e)))
     where
       go : (r : Read Sheet) → sheet s ≡ r → accepted (openedSheet w r .answer) ≡ true
           → (x : Sheet) × (at : ℕ) × (rest : List ℕ) × (sheet s ≡ right x at rest) × (goodOpening (x .districts) (x .items) ≡ true) × (openedSheet w r .book ≡ opened w (x .districts) (x .items))
@@ -119,7 +119,7 @@ module _ (w : ℕ) (s : List ℕ) where
   -- a refused one
   pub refused-zero : accepted (openSheet w s .answer) ≡ false → openSheet w s .book ≡ noBook w
   unfolding openSheet openedSheet refused
-  refused-zero e = by-cases (ltb mostBytes (length s)) (λ t. rw t) (λ t. rw t (go (sheet s) (rw t at e)))
+  refused-zero e = by-cases (tooLong s) (λ t. rw t) (λ t. rw t (go (sheet s) (rw t at e)))
     where
       go : (r : Read Sheet) → accepted (openedSheet w r .answer) ≡ false → openedSheet w r .book ≡ noBook w
       go (wrong place) a = refl

@@ -2,7 +2,7 @@
 use native.Mathlib.Omega.{arith}
 use mathlib.Core.Path.{sym, _∙_}
 use Rattle.conditions.proofs.Laws.Text.{decimal-le}
-use Rattle.sheet.proofs.Writing.{written-put, never-refused}
+use Rattle.conditions.proofs.Putting.{written-put, never-refused}
 use borrow.Author.Needs.{needs}
 use Rattle.sheet.proofs.lines.put_decimal.Statement.{statement}
 use Rattle.sheet.proofs.lines.put_decimal.Tie as tie
