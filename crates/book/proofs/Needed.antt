@@ -2,10 +2,11 @@
 use mathlib.Core.Path.{_≡_, refl, sym, ap, ap₂, _∙_}
 use mathlib.Core.Bool.{Bool, true, false, _||_, cond}
 use mathlib.Core.List.{List, [], _∷_}
-use Prim.Native.Nat.{ℕ, suc, _+_, _*_, _^_, _<_}
+use Prim.Native.Nat.{ℕ, _+_, _^_, _≤_, _<_}
+use native.Mathlib.Decide.{decLt}
 use native.Mathlib.Numerals.{add-one}
 use native.Mathlib.Omega.{arith}
-use lib.Bits.{bitOr}
+use lib.Bits.{bitOr, or-lt}
 use lib.Dec.{eqb, ltb}
 use lib.IntN.{ℤ}
 use lib.ListN.{getD, take}
@@ -18,27 +19,18 @@ use Rattle.conditions.specs.Conditions.{number, ofNumber, always, full, depends
 use Rattle.conditions.specs.Sets.{member, setOf}
 use Rattle.conditions.proofs.Laws.Sets.{member-past, member-none, member-or, setOf-lt, member-setOf, is-setOf}
 use Rattle.conditions.proofs.Laws.Below.{none-any}
-use Rattle.conditions.proofs.Laws.Conditions.{always-full, member-full}
-use Rattle.conditions.proofs.Laws.Places.{place-up, place-lt}
+use Rattle.conditions.proofs.Laws.Conditions.{always-full, member-full, depends-past}
+use Rattle.conditions.proofs.Laws.Places.{place-lt}
+use Rattle.polyvalues.specs.declared.polyvalue.Pair.{Pair}
 use Rattle.polyvalues.specs.declared.polyvalue.Polyvalue.{Polyvalue}
-use Rattle.polyvalues.specs.Pairs.{depends}
+use Rattle.polyvalues.specs.Pairs.{assignments, depends}
 use Rattle.polyvalues.specs.Polyvalues.{paired, inUse}
 use Rattle.book.specs.declared.Book.{Book}
+use Rattle.book.specs.declared.Item.{Item}
 use Rattle.book.specs.declared.tables.Tables.{Tables}
-use Rattle.book.specs.Book.{mostDistricts, noRecord, itemAt, itemDepends, someDepends, including}
+use Rattle.book.specs.Book.{noRecord, itemAt, itemDepends, someDepends}
 use Rattle.book.specs.SoundTest.{zeroRecord, soundRecord, soundDistrict}
 use Rattle.book.specs.Tables.{TablesOf}
-
--- one number more, which is a member or not
-pub set-more : (f : ℕ → Bool) {s q : ℕ} → s < 2 ^ mostDistricts → q < mostDistricts → s ≡ setOf q f → f q ≡ true → including s q ≡ setOf (suc q) f
-unfolding setOf
-set-more f {s} {q} l h e t =
-    let past : member s q ≡ false = member-past q s q (rw e (setOf-lt q f)) (omega arith) in
-    rw t (place-up mostDistricts s q l h past ∙ (let sum : 2 ^ q + s ≡ setOf q f + 1 * 2 ^ q = omega (arith, e) in sum))
-
-pub set-same : (f : ℕ → Bool) {s q : ℕ} → s ≡ setOf q f → f q ≡ false → s ≡ setOf (suc q) f
-unfolding setOf
-set-same f {s} {q} e t = rw t (let sum : s ≡ setOf q f + 0 * 2 ^ q = omega (arith, e) in sum)
 
 -- ---- what depends on no place
 
@@ -57,6 +49,33 @@ certain-free p one e q = rw one (go (p .values) (p .conditions) e)
 
 pub none-in-set : (k : ℕ) (f : ℕ → Bool) → ((q : ℕ) → f q ≡ false) → 0 ≡ setOf k f
 none-in-set k f e = is-setOf k 0 f (pow-pos k) (λ n h. member-none n ∙ sym (e n))
+
+-- ---- the places of an item: those of held and those of pending
+
+pub either-set : (w : ℕ) (x : Item) {s t : ℕ} → s ≡ setOf w (depends w (inUse (x .held))) → t ≡ setOf w (depends w (inUse (x .pending))) → bitOr s t ≡ setOf w (itemDepends w x)
+unfolding itemDepends
+either-set w x e f =
+    rw (e, f)
+    (is-setOf w (bitOr (setOf w (depends w (inUse (x .held)))) (setOf w (depends w (inUse (x .pending))))) (itemDepends w x)
+    (or-lt w _ _ (setOf-lt w (depends w (inUse (x .held)))) (setOf-lt w (depends w (inUse (x .pending)))))
+    (λ q h. member-or _ _ q ∙ ap₂ _||_ (member-setOf w (depends w (inUse (x .held))) q h) (member-setOf w (depends w (inUse (x .pending))) q h)))
+
+pairs-past : (w : ℕ) (ps : List Pair) (q : ℕ) → w ≤ q → depends w ps q ≡ false
+unfolding depends
+pairs-past w [] q l = refl
+pairs-past w (p ∷ ps) q l = rw (depends-past w (assignments p) q l, pairs-past w ps q l)
+
+-- a place is in the set where the item depends on it, also one past the last, on which nothing depends
+pub set-member : (w : ℕ) (x : Item) (q : ℕ) {s : ℕ} → s ≡ setOf w (itemDepends w x) → member s q ≡ itemDepends w x q
+unfolding itemDepends
+set-member w x q e = ap (λ (n : ℕ). member n q) e ∙ pick (decLt q w)
+  where
+    pick : Dec (q < w) → member (setOf w (itemDepends w x)) q ≡ itemDepends w x q
+    pick (yes h) = member-setOf w (itemDepends w x) q h
+    pick (no h) =
+        let past : w ≤ q = omega arith in
+        member-past w (setOf w (itemDepends w x)) q (setOf-lt w (itemDepends w x)) past
+        ∙ sym (ap₂ _||_ (pairs-past w (inUse (x .held)) q past) (pairs-past w (inUse (x .pending)) q past))
 
 -- ---- item after item
 

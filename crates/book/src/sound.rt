@@ -5,7 +5,7 @@ ghost use Prim.Native.Nat.{ℕ, _<_, _≤_, _^_};
 ghost use lib.Dec.{eqb, leb, ltb};
 ghost use lib.ListN.{getD};
 ghost use Rattle.conditions.specs.Below.{all};
-ghost use Rattle.conditions.specs.Sets.{member};
+ghost use Rattle.conditions.specs.Sets.{member, setOf};
 ghost use Rattle.conditions.specs.Places.{places as Places·places};
 ghost use Rattle.polyvalues.specs.Polyvalues.{room, inUse};
 ghost use Rattle.polyvalues.specs.Polyvalues.{sound as soundPolyvalue};
@@ -46,12 +46,10 @@ use crate::tables::DISTRICTS;
 use crate::tables::ITEMS;
 use crate::tables::Tables;
 use crate::tables::district_on;
-use crate::tables::item_depends;
 use crate::tables::place_of;
 use crate::tables::places_of;
 use crate::tables::some_on;
 use conditions::PLACES;
-use conditions::Place;
 use conditions::TransactionNumber;
 use polyvalues::PAIRS;
 use polyvalues::Polyvalue;
@@ -193,10 +191,10 @@ fn sound_idle(x: Item) -> bool
     same_polyvalue(x.pending, x.held)
 }
 
-// Whether an item of a district that is on the transaction number n is sound: neither polyvalue
-// depends on that transaction.
-fn sound_taken(places: [Open; PLACES], n: u16, x: Item) -> bool
-    ensures { λ r. ⌜ ((b : Book) → b .«open» ≡ places → r ≡ (soundPolyvalue Places·places (x .held) && soundPolyvalue Places·places (x .pending) && not (itemDepends Places·places x (placeOf Places·places b n)) && leb (together (inUse (x .held)) (inUse (x .pending))) room)) ⌝ }
+// Whether an item of a district that is on the transaction number n is sound: that transaction's place
+// is none of those that it depends on, its places.
+fn sound_taken(places: [Open; PLACES], n: u16, x: Item, its: u8) -> bool
+    ensures { λ r. ⌜ ((b : Book) → b .«open» ≡ places → its ≡ setOf Places·places (itemDepends Places·places x) → r ≡ (soundPolyvalue Places·places (x .held) && soundPolyvalue Places·places (x .pending) && not (itemDepends Places·places x (placeOf Places·places b n)) && leb (together (inUse (x .held)) (inUse (x .pending))) room)) ⌝ }
 {
     if !x.held.is_sound() {
         return false;
@@ -205,20 +203,21 @@ fn sound_taken(places: [Open; PLACES], n: u16, x: Item) -> bool
         return false;
     }
     let q = place_of(places, TransactionNumber(n));
-    if item_depends(x, Place(q)) {
+    if has(its, q) {
         return false;
     }
     x.held.together(x.pending) <= PAIRS
 }
 
-// Whether an item below the count is sound.
+// Whether an item below the count, which depends on its places, is sound.
 fn sound_row(
     records: [Record; DISTRICTS],
     places: [Open; PLACES],
     districts: usize,
     x: Item,
+    its: u8,
 ) -> bool
-    ensures { λ r. ⌜ ((b : Book) → b .records ≡ records → b .«open» ≡ places → b .districts ≡ districts → r ≡ soundRow Places·places b x) ⌝ }
+    ensures { λ r. ⌜ ((b : Book) → b .records ≡ records → b .«open» ≡ places → b .districts ≡ districts → its ≡ setOf Places·places (itemDepends Places·places x) → r ≡ soundRow Places·places b x) ⌝ }
 {
     let district = x.district;
     if districts <= district as usize {
@@ -228,7 +227,7 @@ fn sound_row(
     if n == 0 {
         return sound_idle(x);
     }
-    sound_taken(places, n, x)
+    sound_taken(places, n, x, its)
 }
 
 // Whether ready and gave-up are apart and within touched, and a completed transaction has the
@@ -389,10 +388,11 @@ impl Book {
         let mut i: usize = 0;
         while i < count {
             let x = self.items[i];
-            if !sound_row(records, open, districts, x) {
+            let its = places_of(x);
+            if !sound_row(records, open, districts, x, its) {
                 return false;
             }
-            needed = needed | places_of(x);
+            needed = needed | its;
             i += 1;
         }
         while i < ITEMS {

@@ -154,17 +154,6 @@ fn is_sure(x: Item) -> bool
     is_certain(pending)
 }
 
-// The set and the place, if the item depends on it.
-fn with_place(set: u8, x: Item, q: usize) -> u8
-    requires { ⌜ (q < Places·places) × (set ≡ setOf q (itemDepends Places·places x)) ⌝ }
-    ensures { λ r. ⌜ r ≡ setOf (suc q) (itemDepends Places·places x) ⌝ }
-{
-    if item_depends(x, Place(q)) {
-        return including(set, q);
-    }
-    set
-}
-
 // The set of the places that the item depends on.
 pub(crate) fn places_of(x: Item) -> u8
     ensures { λ r. ⌜ r ≡ setOf Places·places (itemDepends Places·places x) ⌝ }
@@ -172,11 +161,7 @@ pub(crate) fn places_of(x: Item) -> u8
     if is_sure(x) {
         return 0;
     }
-    let mut set: u8 = 0;
-    let mut q: usize = 0;
-    while q < PLACES {
-        set = with_place(set, x, q);
-        q += 1;
-    }
-    set
+    let held = x.held.places();
+    let pending = x.pending.places();
+    held | pending
 }

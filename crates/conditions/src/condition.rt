@@ -1,7 +1,8 @@
 // A set of assignments, one bit for each.
 ghost use mathlib.Core.Path.{_≡_};
+ghost use Prim.Native.Nat.{_*_};
 ghost use lib.Dec.{eqb};
-ghost use Rattle.conditions.specs.Sets.{member};
+ghost use Rattle.conditions.specs.Sets.{digit, member, setOf};
 ghost use Rattle.conditions.specs.Places.{places};
 ghost use Rattle.conditions.specs.Conditions.{
   number,
@@ -32,6 +33,16 @@ const COMPLETED: [u64; PLACES] = [
     0xffff_0000_ffff_0000,
     0xffff_ffff_0000_0000,
 ];
+
+// The bit of a set's member, and nothing of what is no member.
+fn bit_if(bit: u8, is_in: bool) -> u8
+    ensures { λ r. ⌜ r ≡ digit «is_in» * bit ⌝ }
+{
+    if is_in {
+        return bit;
+    }
+    0
+}
 
 impl Condition {
     // The condition that always applies, and the one that never does.
@@ -131,5 +142,21 @@ impl Condition {
         ensures { λ r. ⌜ r ≡ dependsOn places (number self) (place .0) ⌝ }
     {
         self.reduce(place, true).0 != self.reduce(place, false).0
+    }
+
+    // The set of the places that it depends on.
+    pub fn places(self) -> u8
+        ensures { λ r. ⌜ r ≡ setOf places (dependsOn places (number self)) ⌝ }
+    {
+        let mut set: u8 = 0;
+        let mut bit: u8 = 1;
+        let mut i: usize = 0;
+        while i < PLACES {
+            let is_in = self.depends(Place(i));
+            set += bit_if(bit, is_in);
+            bit += bit;
+            i += 1;
+        }
+        set
     }
 }

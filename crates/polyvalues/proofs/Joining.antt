@@ -1,14 +1,18 @@
 -- Rows joined one after the other, and answers that there is room or not.
 use mathlib.Core.Path.{_≡_, refl, sym, ap, _∙_}
-use mathlib.Core.Bool.{Bool, true, false, _||_, cond, true≢false}
+use mathlib.Core.Bool.{Bool, true, false, _||_, cond, true≢false, or-false, or-assoc}
 use mathlib.Core.List.{List, [], _∷_, _++_}
-use Prim.Native.Nat.{ℕ, suc, _≤_, _<_}
+use Prim.Native.Nat.{ℕ, suc, _^_, _≤_, _<_}
 use native.Mathlib.Omega.{arith}
+use lib.Bits.{bitOr}
 use lib.Dec.{leb}
 use lib.ListN.{length, getD, drop, drop-of-length-le, length-map}
 use lib.Seq.{drop-cons, getD-take}
 use borrow.Author.Tests.{leb-true, leb-false}
+use Rattle.conditions.specs.Places.{places}
+use Rattle.conditions.specs.Sets.{member, setOf}
 use Rattle.conditions.specs.Conditions.{dependsOn}
+use Rattle.conditions.proofs.Laws.Sets.{member-none, member-or, member-setOf, is-setOf}
 use Rattle.conditions.proofs.Laws.Below.{by-cases}
 use Rattle.polyvalues.specs.declared.polyvalue.Pair.{Pair}
 use Rattle.polyvalues.specs.declared.polyvalue.Polyvalue.{Polyvalue}
@@ -77,6 +81,27 @@ depends-more w q k i e h = rw (drop-cons (inUse q) i noPair h, in-use-row q i e 
 pub depends-done : (w : ℕ) (rows : List Pair) (p i : ℕ) → length rows ≤ i → depends w (drop i rows) p ≡ false
 unfolding depends
 depends-done w rows p i h = rw (drop-of-length-le rows h)
+
+-- s has the places that a row before i depends on: those that the polyvalue depends on and the rows from i on leave out
+abbrev pub PlacesBefore : Polyvalue → ℕ → ℕ → Type 0
+PlacesBefore q i s = (p : ℕ) → p < places → (member s p || depends places (drop i (inUse q)) p) ≡ depends places (inUse q) p
+
+pub places-none : (q : Polyvalue) → PlacesBefore q 0 0
+places-none q p l = rw (member-none p)
+
+pub places-more : (q : Polyvalue) (i s : ℕ) {row : Pair} {more : ℕ} → row ≡ getD (rowsOf q) i noPair → i < length (inUse q) → more ≡ setOf places (dependsOn places (assignments row))
+    → PlacesBefore q i s → PlacesBefore q (suc i) (bitOr s more)
+places-more q i s {row} {more} at h e before p l =
+    let its : member more p ≡ dependsOn places (assignments row) p = ap (λ (m : ℕ). member m p) e ∙ member-setOf places (dependsOn places (assignments row)) p l in
+    ap (λ (b : Bool). b || depends places (drop (suc i) (inUse q)) p) (member-or s more p ∙ ap (λ (b : Bool). member s p || b) its)
+    ∙ or-assoc (member s p) (dependsOn places (assignments row) p) (depends places (drop (suc i) (inUse q)) p)
+    ∙ ap (λ (b : Bool). member s p || b) (sym (depends-more places q p i at h))
+    ∙ before p l
+
+pub places-done : (q : Polyvalue) (i s : ℕ) → length (inUse q) ≤ i → s < 2 ^ places → PlacesBefore q i s → s ≡ setOf places (depends places (inUse q))
+places-done q i s h l before =
+    is-setOf places s (depends places (inUse q)) l
+    (λ p t. sym (or-false (member s p)) ∙ ap (λ (b : Bool). member s p || b) (sym (depends-done places (inUse q) p i h)) ∙ before p t)
 
 -- one row more that does not apply
 pub applying-more : (q : Polyvalue) (a i : ℕ) {p : Pair} → p ≡ getD (rowsOf q) i noPair → i < length (inUse q)

@@ -2,6 +2,7 @@
 ghost use mathlib.Core.Path.{_≡_};
 ghost use Rattle.conditions.specs.Places.{places};
 ghost use Rattle.conditions.specs.Conditions.{number};
+ghost use Rattle.conditions.specs.Sets.{setOf};
 ghost use Rattle.polyvalues.specs.Pairs.{pair, assignments, depends, applying};
 ghost use Rattle.polyvalues.specs.Polyvalues.{inUse, packed, fitted};
 ghost use Rattle.polyvalues.specs.Simplify.{join, simplifiedFrom};
@@ -124,6 +125,22 @@ impl Polyvalue {
             i += 1;
         }
         false
+    }
+
+    // The set of the places that one of its conditions depends on.
+    pub fn places(self) -> u8
+        ensures { λ r. ⌜ r ≡ setOf places (depends places (inUse self)) ⌝ }
+    {
+        let n = self.len();
+        let mut set: u8 = 0;
+        let mut i: usize = 0;
+        while i < n {
+            let row = self.row(i);
+            let more = row.condition.places();
+            set = set | more;
+            i += 1;
+        }
+        set
     }
 
     // The first pair that applies under the assignment, or a row of zeros where none does.

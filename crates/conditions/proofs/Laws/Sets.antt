@@ -132,6 +132,11 @@ member-setOf-not k p n e = pick (decLt n k)
 pub is-setOf : (k a : ℕ) (p : ℕ → Bool) → a < 2 ^ k → ((n : ℕ) → n < k → member a n ≡ p n) → a ≡ setOf k p
 is-setOf k a p h f = same-members k a (setOf k p) h (setOf-lt k p) (λ n l. f n l ∙ sym (member-setOf k p n l))
 
+-- one number more: its bit, or nothing
+pub setOf-more : (p : ℕ → Bool) (i : ℕ) {s bit r : ℕ} → s ≡ setOf i p → bit ≡ 2 ^ i → r ≡ digit (p i) * bit → s + r ≡ setOf (i + 1) p
+unfolding setOf
+setOf-more p i e f g = rw (add-one, g, f, e)
+
 -- two tests that agree below k make the same set
 pub setOf-same : (k : ℕ) (p q : ℕ → Bool) → ((n : ℕ) → n < k → p n ≡ q n) → setOf k p ≡ setOf k q
 setOf-same k p q f = is-setOf k (setOf k p) q (setOf-lt k p) (λ n h. member-setOf k p n h ∙ f n h)

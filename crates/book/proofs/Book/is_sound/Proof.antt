@@ -46,15 +46,15 @@ mul-x c = record { fits = omega (arith, few-rows (c .before .before .before .bef
 element-copy-out-x : tie.Need-element-copy-out-x Inv-loop μ-loop Inv-loop2 μ-loop2
 element-copy-out-x c = omega (arith, few-rows (c .before .before .before .before .before .before .args .t1 .districts) (c .before .before .before .before .before .before .args .t1 .count) (c .before .before .before .before .before .sound-counts .ensures) (c .before .before .before .before .if1 .left) .1)
 
+places-of-requires : tie.Need-places-of-requires Inv-loop μ-loop Inv-loop2 μ-loop2
+places-of-requires c κs = search needs
+
 sound-row-requires : tie.Need-sound-row-requires Inv-loop μ-loop Inv-loop2 μ-loop2
 sound-row-requires c κs = search needs
 
 returns-2 : tie.Need-returns-2 Inv-loop μ-loop Inv-loop2 μ-loop2
 unfolding sound
-returns-2 c = rw (all-fails mostItems (soundItem width (c .before .before .before .before .before .before .before .before .before .args .t1)) (c .before .before .before .before .loop .i) (omega (arith, few-rows (c .before .before .before .before .before .before .before .before .before .args .t1 .districts) (c .before .before .before .before .before .before .before .before .before .args .t1 .count) (c .before .before .before .before .before .before .before .before .sound-counts .ensures) (c .before .before .before .before .before .before .before .if1 .left) .1)) (item-row width (c .before .before .before .before .before .before .before .before .before .args .t1) (omega arith) ∙ sym (c .before .sound-row .ensures (c .before .before .before .before .before .before .before .before .before .args .t1) refl refl refl) ∙ not-true _ (c .if2 .taken)), and-false)
-
-places-of-requires : tie.Need-places-of-requires Inv-loop μ-loop Inv-loop2 μ-loop2
-places-of-requires c κs = search needs
+returns-2 c = rw (all-fails mostItems (soundItem width (c .before .before .before .before .before .before .before .before .before .before .args .t1)) (c .before .before .before .before .before .loop .i) (omega (arith, few-rows (c .before .before .before .before .before .before .before .before .before .before .args .t1 .districts) (c .before .before .before .before .before .before .before .before .before .before .args .t1 .count) (c .before .before .before .before .before .before .before .before .before .sound-counts .ensures) (c .before .before .before .before .before .before .before .before .if1 .left) .1)) (item-row width (c .before .before .before .before .before .before .before .before .before .before .args .t1) (omega arith) ∙ sym (c .before .sound-row .ensures (c .before .before .before .before .before .before .before .before .before .before .args .t1) refl refl refl (c .before .before .places-of .ensures)) ∙ not-true _ (c .if2 .taken)), and-false)
 
 add-i : tie.Need-add-i Inv-loop μ-loop Inv-loop2 μ-loop2
 add-i c = search needs
@@ -66,8 +66,8 @@ loop-again : tie.Need-loop-again Inv-loop μ-loop Inv-loop2 μ-loop2
 unfolding soundItem
 loop-again c = (
   omega arith,
-  rw add-one (all-more _ _ (c .before .before .before .before .before .loop .inv .1) (item-row width (c .before .before .before .before .before .before .before .before .before .before .args .t1) (omega arith) ∙ sym (c .before .before .sound-row .ensures (c .before .before .before .before .before .before .before .before .before .before .args .t1) refl refl refl) ∙ not-false _ (c .before .if2 .left))),
-  needed-more width (c .before .before .before .before .before .before .before .before .before .before .args .t1) (c .before .before .before .before .before .loop .i) (c .before .before .before .before .before .loop .needed) (c .before .before .before .before .before .loop .inv .2) (c .places-of .ensures),
+  rw add-one (all-more _ _ (c .before .before .before .before .before .loop .inv .1) (item-row width (c .before .before .before .before .before .before .before .before .before .before .args .t1) (omega arith) ∙ sym (c .before .sound-row .ensures (c .before .before .before .before .before .before .before .before .before .before .args .t1) refl refl refl (c .before .before .places-of .ensures)) ∙ not-false _ (c .if2 .left))),
+  needed-more width (c .before .before .before .before .before .before .before .before .before .before .args .t1) (c .before .before .before .before .before .loop .i) (c .before .before .before .before .before .loop .needed) (c .before .before .before .before .before .loop .inv .2) (c .before .before .places-of .ensures),
 )
 
 loop2-holds : tie.Need-loop2-holds Inv-loop μ-loop Inv-loop2 μ-loop2
@@ -140,9 +140,9 @@ is-sound-spec =
     loop-holds
     mul-x
     element-copy-out-x
+    places-of-requires
     sound-row-requires
     returns-2
-    places-of-requires
     add-i
     loop-less
     loop-again

@@ -15,7 +15,7 @@ cast-if1 c = search needs
 
 returns : tie.Need-returns
 unfolding soundRow
-returns c = λ b e f g. rw (ap (ltb (c .before .args .x .district)) g ∙ le-ltb _ _ (c .if1 .taken))
+returns c = λ b e f g s. rw (ap (ltb (c .before .args .x .district)) g ∙ le-ltb _ _ (c .if1 .taken))
 
 district-on-requires : tie.Need-district-on-requires
 district-on-requires c κs = search needs
@@ -25,7 +25,7 @@ sound-idle-requires c κs = search needs
 
 returns-2 : tie.Need-returns-2
 returns-2 c =
-    λ b e f g. c .sound-idle .ensures
+    λ b e f g s. c .sound-idle .ensures
     ∙ sym (row-idle places b (c .before .before .before .before .args .x) (ap (ltb (c .before .before .before .before .args .x .district)) g ∙ lt-ltb _ _ (c .before .before .before .if1 .left)) (item-on b (c .before .before .before .before .args .x) e (c .before .before .district-on .ensures) ∙ c .before .if2 .taken))
 
 sound-taken-requires : tie.Need-sound-taken-requires
@@ -33,9 +33,9 @@ sound-taken-requires c κs = search needs
 
 returns-3 : tie.Need-returns-3
 returns-3 c =
-    λ b e f g.
+    λ b e f g s.
     let on = item-on b (c .before .before .before .before .args .x) e (c .before .before .district-on .ensures) in
-    rw (row-taken places b (c .before .before .before .before .args .x) (ap (ltb (c .before .before .before .before .args .x .district)) g ∙ lt-ltb _ _ (c .before .before .before .if1 .left)) (ap (λ (n : ℕ). eqb n 0) on ∙ ne-eqb _ _ (c .before .if2 .left)), on) (c .sound-taken .ensures b f)
+    rw (row-taken places b (c .before .before .before .before .args .x) (ap (ltb (c .before .before .before .before .args .x .district)) g ∙ lt-ltb _ _ (c .before .before .before .if1 .left)) (ap (λ (n : ℕ). eqb n 0) on ∙ ne-eqb _ _ (c .before .if2 .left)), on) (c .sound-taken .ensures b f s)
 
 pub sound-row-spec : {M : Type 1} → statement M
 sound-row-spec =
