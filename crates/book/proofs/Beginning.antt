@@ -1,6 +1,6 @@
 -- A begun book, as the code has it.
-use mathlib.Core.Path.{_≡_, refl, ap, ap₂, _∙_}
-use mathlib.Core.Bool.{Bool, true, false, not, cond}
+use mathlib.Core.Path.{_≡_, refl, sym, ap, ap₂, _∙_}
+use mathlib.Core.Bool.{Bool, true, false, not, cond, true≢false}
 use mathlib.Core.List.{List, [], _∷_}
 use Prim.Native.Nat.{ℕ, zero, suc, _+_, _≤_, _<_}
 use native.Mathlib.Omega.{arith}
@@ -19,7 +19,7 @@ use Rattle.book.specs.declared.Step.{Step}
 use Rattle.book.specs.declared.alternatives.Worked.{Worked}
 use Rattle.book.specs.Answers.{firstOf}
 use Rattle.book.specs.Rows.{rowsFrom, rows}
-use Rattle.book.specs.Book.{mostDistricts, lastNumber, void, freePlace}
+use Rattle.book.specs.Book.{mostDistricts, lastNumber, void, freePlace, withItems}
 use Rattle.book.specs.Items.{becomes}
 use Rattle.book.specs.Programs.{steps, touches}
 use Rattle.book.specs.Records.{beginRecord}
@@ -44,16 +44,20 @@ rows-alike k f g zero xs e = refl
 rows-alike k f g (suc n) [] e = refl
 rows-alike k f g (suc n) (x ∷ xs) e = ap₂ _∷_ (e k (omega arith) x) (rows-alike (suc k) f g n xs (λ d h y. e d (omega arith) y))
 
--- the book, from its parts
-pub begun-is : (w : ℕ) (b : Book) (xs : List Step) {s : ℕ} {rs : List Record} {is : List Item} {q : ℕ} → b .districts ≤ mostDistricts → s ≡ setOf mostDistricts (touchesDistrict b xs)
-    → rs ≡ rows (λ d x. cond (member s d) (beginRecord (b .last .0 + 1)) x) (b .districts) (b .records) → is ≡ rows (beginItem w b xs) (b .count) (b .items) → q ≡ freePlace w b
-    → record { last = record { 0 = b .last .0 + 1 }; districts = b .districts; records = rs; count = b .count; items = is; «open» = set (b .«open») q (record { number = record { 0 = b .last .0 + 1 }; touched = s; ready = 0; gave = 0; decision = 0 }) } ≡ begun w b xs
+-- the book, from its parts: one whose items have begun, the records, and the new transaction
+pub begun-is : (w : ℕ) (b : Book) (xs : List Step) {now : Book} {s : ℕ} {rs : List Record} {q : ℕ} → b .districts ≤ mostDistricts → now ≡ withItems b (rows (beginItem w b xs) (b .count) (b .items))
+    → s ≡ setOf mostDistricts (touchesDistrict b xs) → rs ≡ rows (λ d x. cond (member s d) (beginRecord (b .last .0 + 1)) x) (b .districts) (b .records) → q ≡ freePlace w b
+    → record { last = record { 0 = b .last .0 + 1 }; districts = now .districts; records = rs; count = now .count; items = now .items; «open» = set (now .«open») q (record { number = record { 0 = b .last .0 + 1 }; touched = s; ready = 0; gave = 0; decision = 0 }) } ≡ begun w b xs
 unfolding begun
-begun-is w b xs {s} few es er ei eq =
+begun-is w b xs {s = s} few en es er eq =
     let one : b .last .0 + 1 ≡ suc (b .last .0) = omega arith in
     let alike = rows-alike 0 (λ d x. cond (member s d) (beginRecord (b .last .0 + 1)) x) (λ d x. cond (touchesDistrict b xs d) (beginRecord (suc (b .last .0))) x) (b .districts) (b .records)
     (λ d h x. ap₂ (λ (t : Bool) (n : ℕ). cond t (beginRecord n) x) (ap (λ (u : ℕ). member u d) es ∙ member-setOf mostDistricts (touchesDistrict b xs) d (omega arith)) one) in
-    λ k. record { last = record { 0 = one k }; districts = b .districts; records = (er ∙ alike) k; count = b .count; items = ei k; «open» = set (b .«open») (eq k) (record { number = record { 0 = one k }; touched = es k; ready = 0; gave = 0; decision = 0 }) }
+    λ k. record { last = record { 0 = one k }; districts = en k .districts; records = (er ∙ alike) k; count = en k .count; items = en k .items; «open» = set (en k .«open») (eq k) (record { number = record { 0 = one k }; touched = es k; ready = 0; gave = 0; decision = 0 }) }
+
+-- where there are not too many values, all alternatives are worked out
+pub all-worked : (w : ℕ) (b : Book) (xs : List Step) (t : Worked) → (t .fits ≡ true → WorkedOut w b xs t) → (t .fits ≡ false → tooMany w b xs ≡ true) → tooMany w b xs ≡ false → WorkedOut w b xs t
+all-worked w b xs t fits over few = by-cases (t .fits) fits (λ e. absurd (true≢false (sym (over e) ∙ few)))
 
 -- ---- its answer, for a sound book and a good program whose items are in the table
 

@@ -14,4 +14,5 @@ mod Making
 mod Showing
 mod Needed
 mod Working
+mod Touching
 mod Beginning

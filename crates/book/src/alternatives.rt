@@ -1,6 +1,6 @@
 // Begin's work: the program is run once for each block of assignments, and the results are joined.
 ghost use mathlib.Core.Path.{_≡_};
-ghost use mathlib.Core.Bool.{true, false, _&&_};
+ghost use mathlib.Core.Bool.{true, false, _&&_, cond};
 ghost use Prim.Native.Nat.{_^_, _≤_, _<_};
 ghost use lib.Dec.{ltb};
 ghost use Rattle.conditions.specs.Below.{all};
@@ -14,7 +14,7 @@ ghost use Rattle.book.specs.Programs.{takes};
 ghost use Rattle.book.specs.SoundTest.{sound};
 ghost use Rattle.book.specs.Begin.{someStep, outside, tooMany};
 ghost use Rattle.book.specs.States.{stepsOf, stateOf, rowsOf};
-ghost use Rattle.book.specs.Alternatives.{block, StartsAs, joinedRow, rowAfter, RowsAfter, Covers, nothingWorked, grantOf, WorkedOut};
+ghost use Rattle.book.specs.Alternatives.{block, StartsAs, joinedRow, rowAfter, RowsAfter, Covers, nothingWorked, WorkedOut};
 use crate::Book;
 use crate::Item;
 use crate::program::Program;
@@ -260,17 +260,15 @@ pub(crate) fn too_many(b: Book, p: Program, w: Worked) -> bool
     false
 }
 
-impl Worked {
-    // 1 if no assignment declines, 0 if all do, 2 otherwise.
-    pub(crate) fn grant(self) -> u8
-        ensures { λ r. ⌜ r ≡ grantOf self ⌝ }
-    {
-        if self.declines {
-            if self.grants {
-                return 2;
-            }
-            return 0;
+// 1 if no assignment declines, 0 if all do, 2 otherwise.
+pub(crate) fn granted(declines: bool, grants: bool) -> u8
+    ensures { λ r. ⌜ r ≡ cond declines (cond grants 2 0) 1 ⌝ }
+{
+    if declines {
+        if grants {
+            return 2;
         }
-        1
+        return 0;
     }
+    1
 }

@@ -4,14 +4,14 @@ ghost use mathlib.Core.Bool.{true, false, cond};
 ghost use mathlib.Core.List.{List};
 ghost use Prim.Native.Nat.{ℕ, _<_, _≤_};
 ghost use Rattle.conditions.specs.Places.{places};
+ghost use Rattle.conditions.specs.Sets.{setOf};
 ghost use Rattle.book.specs.declared.Answer.the-variants.{Accepted, TooManyValues};
-ghost use Rattle.book.specs.Rows.{rows};
 ghost use Rattle.book.specs.Book.{mostDistricts, mostItems, lastNumber, freePlace};
 ghost use Rattle.book.specs.Items.{becomes};
 ghost use Rattle.book.specs.States.{stepsOf};
 ghost use Rattle.book.specs.Programs.{steps};
 ghost use Rattle.book.specs.Alternatives.{WorkedOut};
-ghost use Rattle.book.specs.Begin.{badProgram, someStep, outside, someBusy, tooMany, beginItem, begun, begins, begin};
+ghost use Rattle.book.specs.Begin.{badProgram, someStep, outside, someBusy, tooMany, touchesDistrict, begun, begins, begin};
 ghost use Rattle.book.specs.SoundTest.{sound};
 use crate::Answer;
 use crate::Begun;
@@ -19,16 +19,16 @@ use crate::Book;
 use crate::Item;
 use crate::Open;
 use crate::alternatives::Worked;
+use crate::alternatives::granted;
 use crate::alternatives::too_many;
 use crate::alternatives::worked_out;
 use crate::program::Program;
 use crate::program::bad_program;
 use crate::program::read;
-use crate::tables::ITEMS;
 use crate::tables::free_place;
 use crate::touched::begun_records;
 use crate::touched::some_busy;
-use crate::touched::touched;
+use crate::touched::with_district;
 use conditions::PLACES;
 use conditions::TransactionNumber;
 use polyvalues::Polyvalue;
@@ -48,38 +48,28 @@ fn begun_item(x: Item, is_touched: bool, new: Polyvalue) -> Item
     x
 }
 
-// Each item so.
-fn begun_items(b: Book, p: Program, w: Worked) -> [Item; ITEMS]
-    requires { ⌜ (b .count ≤ mostItems) × WorkedOut places b (stepsOf p) w ⌝ }
-    ensures { λ r. ⌜ r ≡ rows (beginItem places b (stepsOf p)) (b .count) (b .items) ⌝ }
-{
-    let count = b.count;
-    let mut items = b.items;
-    let mut i: usize = 0;
-    while i < count {
-        let x = items[i];
-        let new = w.new[i];
-        let is_touched = p.touches(i);
-        let y = begun_item(x, is_touched, new);
-        items[i] = y;
-        i += 1;
-    }
-    items
-}
-
-// The next number is given to the program, at the place.
-pub(crate) fn begun(mut b: Book, p: Program, w: Worked, q: usize) -> Book
+// The next number is given to the program, at the place; the set has the districts that it touches.
+fn begun(mut b: Book, p: Program, w: Worked, q: usize, set: u8) -> Book
     requires { ⌜ (b .districts ≤ mostDistricts) × (b .count ≤ mostItems) × (b .last .0 < lastNumber) ⌝ }
-    requires { ⌜ (q ≡ freePlace places b) × (q < places) ⌝ }
+    requires { ⌜ (q ≡ freePlace places b) × (q < places) × (set ≡ setOf mostDistricts (touchesDistrict b (stepsOf p))) ⌝ }
     requires { ⌜ WorkedOut places b (stepsOf p) w ⌝ }
     ensures { λ r. ⌜ r ≡ begun places b (stepsOf p) ⌝ }
 {
     let before = b.last.0;
     let next = before + 1;
     let number = TransactionNumber(next);
-    let set = touched(b, p);
-    let records = begun_records(b, set, number);
-    let items = begun_items(b, p, w);
+    let idle = b.records;
+    let records = begun_records(idle, b.districts, set, number);
+    let count = b.count;
+    let mut i: usize = 0;
+    while i < count {
+        let x = b.items[i];
+        let new = w.new[i];
+        let is_touched = p.touches(i);
+        let y = begun_item(x, is_touched, new);
+        b.items[i] = y;
+        i += 1;
+    }
     let new = Open {
         number,
         touched: set,
@@ -89,7 +79,6 @@ pub(crate) fn begun(mut b: Book, p: Program, w: Worked, q: usize) -> Book
     };
     b.last = number;
     b.records = records;
-    b.items = items;
     b.open[q] = new;
     b
 }
@@ -106,16 +95,21 @@ fn refused(b: Book, answer: Answer) -> Begun
     }
 }
 
-// Accepted: the next number, the grant, and the book that the program leaves. The touched districts were
-// on no transaction and the others stay on theirs, so there is nothing to forget.
-fn accepted(b: Book, p: Program, w: Worked, q: usize) -> Begun
-    requires { ⌜ (sound places b ≡ true) × (someBusy b (stepsOf p) ≡ false) × (b .last .0 < lastNumber) ⌝ }
-    requires { ⌜ (q ≡ freePlace places b) × (q < places) ⌝ }
-    requires { ⌜ WorkedOut places b (stepsOf p) w ⌝ }
-    ensures { λ r. ⌜ r ≡ begins places Accepted b (stepsOf p) ⌝ }
+// Begin of a program that has a number and a place: only its values may be too many. The touched
+// districts were on no transaction and the others stay on theirs, so there is nothing to forget.
+fn begin_at(b: Book, p: Program, q: usize, set: u8) -> Begun
+    requires { ⌜ (sound places b ≡ true) × (someBusy b (stepsOf p) ≡ false) ⌝ }
+    requires { ⌜ someStep (outside (b .count)) (stepsOf p) ≡ false ⌝ }
+    requires { ⌜ (q ≡ freePlace places b) × (q < places) × (b .last .0 < lastNumber) ⌝ }
+    requires { ⌜ set ≡ setOf mostDistricts (touchesDistrict b (stepsOf p)) ⌝ }
+    ensures { λ r. ⌜ r ≡ begins places (cond (tooMany places b (stepsOf p)) TooManyValues Accepted) b (stepsOf p) ⌝ }
 {
-    let grant = w.grant();
-    let after = begun(b, p, w, q);
+    let w = worked_out(b, p);
+    if too_many(b, p, w) {
+        return refused(b, Answer::TooManyValues);
+    }
+    let grant = granted(w.declines, w.grants);
+    let after = begun(b, p, w, q, set);
     let number = after.last;
     Begun {
         answer: Answer::Accepted,
@@ -125,27 +119,23 @@ fn accepted(b: Book, p: Program, w: Worked, q: usize) -> Begun
     }
 }
 
-// Begin of a program that has a number and a place: only its values may be too many.
-fn begin_at(b: Book, p: Program, q: usize) -> Begun
-    requires { ⌜ (sound places b ≡ true) × (someBusy b (stepsOf p) ≡ false) ⌝ }
-    requires { ⌜ someStep (outside (b .count)) (stepsOf p) ≡ false ⌝ }
-    requires { ⌜ (q ≡ freePlace places b) × (q < places) × (b .last .0 < lastNumber) ⌝ }
-    ensures { λ r. ⌜ r ≡ begins places (cond (tooMany places b (stepsOf p)) TooManyValues Accepted) b (stepsOf p) ⌝ }
-{
-    let w = worked_out(b, p);
-    if too_many(b, p, w) {
-        return refused(b, Answer::TooManyValues);
-    }
-    accepted(b, p, w, q)
-}
-
 // Begin of a program that is good and whose items are in the table.
 fn begin_program(b: Book, p: Program) -> Begun
     requires { ⌜ sound places b ≡ true ⌝ }
     requires { ⌜ someStep (outside (b .count)) (stepsOf p) ≡ false ⌝ }
     ensures { λ r. ⌜ ((bytes : List ℕ) → badProgram bytes ≡ false → steps bytes ≡ stepsOf p → r ≡ begin places b bytes) ⌝ }
 {
-    let is_busy = some_busy(b, p);
+    let count = b.count;
+    let mut set: u8 = 0;
+    let mut i: usize = 0;
+    while i < count {
+        let district = b.items[i].district;
+        let is_touched = p.touches(i);
+        set = with_district(set, is_touched, district);
+        i += 1;
+    }
+    let records = b.records;
+    let is_busy = some_busy(records, b.districts, set);
     let open = b.open;
     let q = free_place(open);
     if is_busy {
@@ -157,7 +147,7 @@ fn begin_program(b: Book, p: Program) -> Begun
     if NUMBERS <= b.last.0 {
         return refused(b, Answer::NumbersGiven);
     }
-    begin_at(b, p, q)
+    begin_at(b, p, q, set)
 }
 
 impl Book {

@@ -3,78 +3,58 @@ ghost use mathlib.Core.Path.{_≡_};
 ghost use mathlib.Core.Bool.{not, _&&_, _||_, cond};
 ghost use Prim.Native.Nat.{ℕ, _<_, _≤_};
 ghost use lib.Dec.{eqb};
-ghost use Rattle.conditions.specs.Sets.{member, setOf};
-ghost use Rattle.book.specs.declared.Book.{Book};
-ghost use Rattle.book.specs.Book.{mostDistricts, mostItems, itemOn};
-ghost use Rattle.book.specs.Programs.{touches};
+ghost use lib.ListN.{getD};
+ghost use Rattle.conditions.specs.Below.{any};
+ghost use Rattle.conditions.specs.Sets.{member};
+ghost use Rattle.book.specs.Book.{mostDistricts, noRecord, recordOn};
 ghost use Rattle.book.specs.Rows.{rows};
-ghost use Rattle.book.specs.Begin.{someBusy, touchesDistrict};
 ghost use Rattle.book.specs.Records.{beginRecord};
-ghost use Rattle.book.specs.States.{stepsOf};
-use crate::Book;
-use crate::Item;
 use crate::Record;
-use crate::program::Program;
 use crate::sets::has;
 use crate::sets::including;
 use crate::tables::DISTRICTS;
-use crate::tables::district_on;
+use crate::tables::record_on;
 use conditions::TransactionNumber;
 
-// Whether the program touches the item, and it is on a transaction.
-fn is_busy(records: [Record; DISTRICTS], p: Program, i: usize, x: Item) -> bool
-    ensures { λ r. ⌜ ((b : Book) → b .records ≡ records → r ≡ (touches (stepsOf p) i && not (eqb (itemOn b x) 0))) ⌝ }
+// The set of districts and, where an item is touched, its district.
+pub(crate) fn with_district(set: u8, is_touched: bool, district: u8) -> u8
+    ensures { λ r. ⌜ ((d : ℕ) → d < mostDistricts → member r d ≡ (member set d || («is_touched» && eqb district d))) ⌝ }
 {
-    if !p.touches(i) {
-        return false;
-    }
-    let on = district_on(records, x.district);
-    on != 0
-}
-
-// Whether it does so for an item of the book.
-pub(crate) fn some_busy(b: Book, p: Program) -> bool
-    requires { ⌜ b .count ≤ mostItems ⌝ }
-    ensures { λ r. ⌜ r ≡ someBusy b (stepsOf p) ⌝ }
-{
-    let mut i: usize = 0;
-    while i < b.count {
-        let x = b.items[i];
-        if is_busy(b.records, p, i, x) {
-            return true;
-        }
-        i += 1;
-    }
-    false
-}
-
-// The set of districts and, where the program touches the item, its district.
-fn with_district(set: u8, p: Program, i: usize, x: Item) -> u8
-    ensures { λ r. ⌜ ((d : ℕ) → d < mostDistricts → member r d ≡ (member set d || (touches (stepsOf p) i && eqb (x .district) d))) ⌝ }
-{
-    if !p.touches(i) {
+    if !is_touched {
         return set;
     }
-    let d = x.district as usize;
+    let d = district as usize;
     if DISTRICTS <= d {
         return set;
     }
     including(set, d)
 }
 
-// The set of the districts with a touched item.
-pub(crate) fn touched(b: Book, p: Program) -> u8
-    requires { ⌜ b .count ≤ mostItems ⌝ }
-    ensures { λ r. ⌜ r ≡ setOf mostDistricts (touchesDistrict b (stepsOf p)) ⌝ }
+// Whether the set has the district, and it is on a transaction.
+fn is_busy(r: Record, set: u8, d: usize) -> bool
+    ensures { λ s. ⌜ s ≡ (member set d && not (eqb (recordOn r) 0)) ⌝ }
 {
-    let mut set: u8 = 0;
-    let mut i: usize = 0;
-    while i < b.count {
-        let x = b.items[i];
-        set = with_district(set, p, i, x);
-        i += 1;
+    if !has(set, d) {
+        return false;
     }
-    set
+    let on = record_on(r);
+    on != 0
+}
+
+// Whether a district of the set is.
+pub(crate) fn some_busy(records: [Record; DISTRICTS], districts: usize, set: u8) -> bool
+    requires { ⌜ districts ≤ mostDistricts ⌝ }
+    ensures { λ r. ⌜ r ≡ any districts (λ d. member set d && not (eqb (recordOn (getD records d noRecord)) 0)) ⌝ }
+{
+    let mut d: usize = 0;
+    while d < districts {
+        let r = records[d];
+        if is_busy(r, set, d) {
+            return true;
+        }
+        d += 1;
+    }
+    false
 }
 
 // The record of the district d when the districts of the set begin to compute.
@@ -92,18 +72,22 @@ fn begun(r: Record, set: u8, d: usize, n: TransactionNumber) -> Record
 }
 
 // The records, where each district of the set computes on the transaction.
-pub(crate) fn begun_records(b: Book, set: u8, n: TransactionNumber) -> [Record; DISTRICTS]
-    requires { ⌜ b .districts ≤ mostDistricts ⌝ }
-    ensures { λ r. ⌜ r ≡ rows (λ d x. cond (member set d) (beginRecord (n .0)) x) (b .districts) (b .records) ⌝ }
+pub(crate) fn begun_records(
+    records: [Record; DISTRICTS],
+    districts: usize,
+    set: u8,
+    n: TransactionNumber,
+) -> [Record; DISTRICTS]
+    requires { ⌜ districts ≤ mostDistricts ⌝ }
+    ensures { λ r. ⌜ r ≡ rows (λ d x. cond (member set d) (beginRecord (n .0)) x) districts records ⌝ }
 {
-    let districts = b.districts;
-    let mut records = b.records;
+    let mut now = records;
     let mut d: usize = 0;
     while d < districts {
-        let r = records[d];
+        let r = now[d];
         let s = begun(r, set, d, n);
-        records[d] = s;
+        now[d] = s;
         d += 1;
     }
-    records
+    now
 }

@@ -4,39 +4,39 @@ use mathlib.Core.Bool.{cond}
 use Prim.Native.Nat.{_≤_, _-_}
 use native.Mathlib.Omega.{arith}
 use borrow.Author.Needs.{needs}
+use lib.ListN.{length}
 use Rattle.conditions.specs.Sets.{member}
 use Rattle.book.specs.Rows.{rowsFrom, rows}
-use Rattle.book.specs.Book.{noRecord}
+use Rattle.book.specs.Book.{mostDistricts, noRecord}
 use Rattle.book.specs.Records.{beginRecord}
-use Rattle.book.proofs.Known.{Held, records-long}
 use Rattle.book.proofs.Loops.{turn}
 use Rattle.book.proofs.touched.begun_records.Statement.{statement}
 use Rattle.book.proofs.touched.begun_records.Tie as tie
 
 abbrev Inv-loop : tie.InvT-loop
-Inv-loop set n districts records₀ d₀ records d = (d ≤ districts) × (records ≡ rows (λ d x. cond (member set d) (beginRecord (n .0)) x) d records₀)
+Inv-loop districts set n now₀ d₀ now d = (d ≤ districts) × (now ≡ rows (λ d x. cond (member set d) (beginRecord (n .0)) x) d now₀)
 
 abbrev μ-loop : tie.MeasureT-loop
-μ-loop set n districts records₀ d₀ records d = districts - d
+μ-loop districts set n now₀ d₀ now d = districts - d
 
 loop-holds : tie.Need-loop-holds Inv-loop μ-loop
 unfolding rowsFrom
 loop-holds c = (omega arith, refl)
 
 mul-r : tie.Need-mul-r Inv-loop μ-loop
-mul-r c = record { fits = omega (arith, c .before .before .before .pre) }
+mul-r c = record { fits = omega (arith, c .before .before .pre) }
 
 array-copy-out-r : tie.Need-array-copy-out-r Inv-loop μ-loop
-array-copy-out-r c = omega (arith, c .before .before .before .pre)
+array-copy-out-r c = omega (arith, c .before .before .pre)
 
 begun-requires : tie.Need-begun-requires Inv-loop μ-loop
-begun-requires c κs = omega (arith, c .before .before .before .before .pre)
+begun-requires c κs = omega (arith, c .before .before .before .pre)
 
-mul-records : tie.Need-mul-records Inv-loop μ-loop
-mul-records c = record { fits = omega (arith, c .before .before .before .before .before .pre) }
+mul-now : tie.Need-mul-now Inv-loop μ-loop
+mul-now c = record { fits = omega (arith, c .before .before .before .before .pre) }
 
-array-set-from-records : tie.Need-array-set-from-records Inv-loop μ-loop
-array-set-from-records c = omega (arith, c .before .before .before .before .before .pre)
+array-set-from-now : tie.Need-array-set-from-now Inv-loop μ-loop
+array-set-from-now c = omega (arith, c .before .before .before .before .pre)
 
 add-d : tie.Need-add-d Inv-loop μ-loop
 add-d c = search needs
@@ -45,10 +45,12 @@ loop-less : tie.Need-loop-less Inv-loop μ-loop
 loop-less c = omega arith
 
 loop-again : tie.Need-loop-again Inv-loop μ-loop
-loop-again c = let held : Held (c .before .before .before .before .before .args .b) = record { values = _; own = c .before .before .before .before .before .good .0 } in (omega arith, turn (λ d x. cond (member (c .before .before .before .before .before .args .set) d) (beginRecord (c .before .before .before .before .before .args .n .0)) x) noRecord (c .before .before .before .loop .d) (c .before .before .before .before .before .args .b .records) (c .before .before .before .loop .records) (c .begun .result) (omega (arith, records-long held, c .before .before .before .before .before .pre)) (c .before .before .before .loop .inv .1) (c .begun .ensures))
+loop-again c =
+    let long : length (c .before .before .before .before .args .records) ≡ mostDistricts = c .before .before .before .before .good .0 .1 .0 .1 in
+    (omega arith, turn (λ d x. cond (member (c .before .before .before .before .args .set) d) (beginRecord (c .before .before .before .before .args .n .0)) x) noRecord (c .before .before .before .loop .d) (c .before .before .before .before .args .records) (c .before .before .before .loop .now) (c .begun .result) (omega (arith, long, c .before .before .before .before .pre)) (c .before .before .before .loop .inv .1) (c .begun .ensures))
 
 returns : tie.Need-returns Inv-loop μ-loop
-returns c = let last : c .before .loop .d ≡ c .before .before .before .args .b .districts = omega (arith, c .before .loop .inv .0) in rw last at (c .before .loop .inv .1)
+returns c = let last : c .before .loop .d ≡ c .before .before .args .districts = omega (arith, c .before .loop .inv .0) in rw last at (c .before .loop .inv .1)
 
 pub begun-records-spec : {M : Type 1} → statement M
 begun-records-spec =
@@ -60,8 +62,8 @@ begun-records-spec =
     mul-r
     array-copy-out-r
     begun-requires
-    mul-records
-    array-set-from-records
+    mul-now
+    array-set-from-now
     add-d
     loop-less
     loop-again
