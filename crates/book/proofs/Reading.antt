@@ -18,7 +18,7 @@ use Rattle.book.specs.declared.Step.{Step}
 use Rattle.book.specs.declared.program.Program.{Program}
 use Rattle.book.specs.Book.{mostItems}
 use Rattle.book.specs.Programs.{steps}
-use Rattle.book.specs.Begin.{mostSteps, someStep, badLength, badStep, badProgram, outside}
+use Rattle.book.specs.Begin.{mostSteps, someStep, badLength, badProgram, outside}
 use Rattle.book.specs.States.{noStep, stepsOf, programOf}
 use Rattle.book.proofs.Laws.Steps.{getD-steps}
 use Rattle.book.proofs.Step as TStep
@@ -47,15 +47,10 @@ step-read bytes j h e =
 pub few-steps : (bytes : List ℕ) → badLength bytes ≡ false → length (steps bytes) ≤ mostSteps
 few-steps bytes e = ltb-false mostSteps (length (steps bytes)) (or-right (not (eqb (length bytes % 4) 0) || eqb (length (steps bytes)) 0) _ e)
 
--- a program that is not bad has few steps, and no bad one
-module _ (bytes : List ℕ) (good : badProgram bytes ≡ false) where
-  pub good-count : length (steps bytes) ≤ mostSteps
-  unfolding badProgram
-  good-count = few-steps bytes (or-left (badLength bytes) _ good)
-
-  pub good-steps : someStep badStep (steps bytes) ≡ false
-  unfolding badProgram
-  good-steps = or-right (badLength bytes) _ good
+-- a program that is not bad has few steps
+pub good-count : (bytes : List ℕ) → badProgram bytes ≡ false → length (steps bytes) ≤ mostSteps
+unfolding badProgram
+good-count bytes good = few-steps bytes (or-left (badLength bytes) _ good)
 
 -- ---- a program that is read: the first i steps are there
 
