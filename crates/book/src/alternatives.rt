@@ -1,7 +1,7 @@
 // Begin's work: the program is run once for each block of assignments, and the results are joined.
 ghost use mathlib.Core.Path.{_≡_};
 ghost use mathlib.Core.Bool.{true, false, _&&_, cond};
-ghost use Prim.Native.Nat.{_^_, _≤_, _<_};
+ghost use Prim.Native.Nat.{ℕ, _^_, _≤_, _<_};
 ghost use lib.Dec.{ltb};
 ghost use Rattle.conditions.specs.Below.{all};
 ghost use Rattle.conditions.specs.Places.{places};
@@ -9,6 +9,7 @@ ghost use Rattle.conditions.specs.Conditions.{number, union, intersection};
 ghost use Rattle.polyvalues.specs.Pairs.{assignments};
 ghost use Rattle.polyvalues.specs.Polyvalues.{room, inUse};
 ghost use Rattle.polyvalues.specs.Operations.{together};
+ghost use Rattle.book.specs.declared.Book.{Book};
 ghost use Rattle.book.specs.Book.{mostItems};
 ghost use Rattle.book.specs.Programs.{takes};
 ghost use Rattle.book.specs.SoundTest.{sound};
@@ -141,23 +142,17 @@ pub struct Worked {
 }
 
 impl Worked {
-    // The same, with the block of one more assignment.
-    fn after(self, b: Book, p: Program, assignment: usize) -> Worked
-        requires { ⌜ sound places b ≡ true ⌝ }
-        requires { ⌜ someStep (outside (b .count)) (stepsOf p) ≡ false ⌝ }
-        requires { ⌜ assignment < 2 ^ places ⌝ }
-        requires { ⌜ Covers places b (stepsOf p) self ⌝ }
-        ensures { λ r. ⌜ number (r .covered) ≡ union places (number (self .covered)) (block places b (stepsOf p) assignment) ⌝ }
-        ensures { λ r. ⌜ (r .fits ≡ true → Covers places b (stepsOf p) r) ⌝ }
-        ensures { λ r. ⌜ (r .fits ≡ false → tooMany places b (stepsOf p) ≡ true) ⌝ }
+    // The same, with one block more: the one that an assignment of a book of so many items starts with.
+    fn after(self, count: usize, p: Program, start: Alternative) -> Worked
+        requires { ⌜ (count ≤ mostItems) × (someStep (outside count) (stepsOf p) ≡ false) ⌝ }
+        ensures { λ r. ⌜ number (r .covered) ≡ union places (number (self .covered)) (number (start .condition)) ⌝ }
+        ensures { λ r. ⌜ ((b : Book) (a : ℕ) → b .count ≡ count → sound places b ≡ true → a < 2 ^ places → Covers places b (stepsOf p) self → number (start .condition) ≡ block places b (stepsOf p) a → StartsAs b (stepsOf p) a (b .count) (start .state) → (r .fits ≡ true → Covers places b (stepsOf p) r) × (r .fits ≡ false → tooMany places b (stepsOf p) ≡ true)) ⌝ }
     {
-        let start = alternative_under(b, p, assignment);
         let condition = start.condition;
         let from = start.state;
         let end = p.run(from);
         let state = end.state;
         let old = self.new;
-        let count = b.count;
         let spread = joined_in(old, count, p, state, condition);
         let fits = spread.fits;
         let new = spread.new;
@@ -211,10 +206,12 @@ pub(crate) fn worked_out(b: Book, p: Program) -> Worked
     ensures { λ r. ⌜ (r .fits ≡ true → WorkedOut places b (stepsOf p) r) ⌝ }
     ensures { λ r. ⌜ (r .fits ≡ false → tooMany places b (stepsOf p) ≡ true) ⌝ }
 {
+    let count = b.count;
     let mut done = nothing_worked();
     let mut next: usize = 0;
     while next < ASSIGNMENTS {
-        let more = done.after(b, p, next);
+        let start = alternative_under(b, p, next);
+        let more = done.after(count, p, start);
         if !more.fits {
             return more;
         }
