@@ -1,5 +1,5 @@
 -- The set of the places that items depend on, as the code gathers it.
-use mathlib.Core.Path.{_≡_, sym, ap, ap₂, _∙_}
+use mathlib.Core.Path.{_≡_, refl, sym, ap, ap₂, _∙_}
 use mathlib.Core.Bool.{Bool, true, false, _||_, cond}
 use mathlib.Core.List.{List, [], _∷_}
 use Prim.Native.Nat.{ℕ, suc, _+_, _*_, _^_, _<_}
@@ -7,22 +7,22 @@ use native.Mathlib.Numerals.{add-one}
 use native.Mathlib.Omega.{arith}
 use lib.Bits.{bitOr}
 use lib.Dec.{eqb, ltb}
-use lib.ListN.{length, getD, take}
+use lib.IntN.{ℤ}
+use lib.ListN.{getD, take}
 use lib.Pow.{pow-pos}
 use borrow.Author.Tests.{eqb-true}
 use Rattle.conditions.specs.Below.{any}
 use Rattle.conditions.specs.Places.{places, withPlace}
-use Rattle.conditions.specs.Conditions.{number, always, full, dependsOn}
+use Rattle.conditions.specs.declared.condition.Condition.{Condition}
+use Rattle.conditions.specs.Conditions.{number, ofNumber, always, full, dependsOn}
 use Rattle.conditions.specs.Sets.{member, setOf}
 use Rattle.conditions.proofs.Laws.Sets.{member-past, member-none, member-or, setOf-lt, member-setOf, is-setOf}
 use Rattle.conditions.proofs.Laws.Below.{none-any}
 use Rattle.conditions.proofs.Laws.Conditions.{always-full, member-full}
 use Rattle.conditions.proofs.Laws.Places.{place-up, place-lt}
-use Rattle.polyvalues.specs.declared.polyvalue.Pair.{Pair}
 use Rattle.polyvalues.specs.declared.polyvalue.Polyvalue.{Polyvalue}
-use Rattle.polyvalues.specs.Pairs.{noPair, assignments, depends}
-use Rattle.polyvalues.specs.Polyvalues.{room, inUse}
-use Rattle.polyvalues.proofs.Known.{Held, pairs-long}
+use Rattle.polyvalues.specs.Pairs.{depends}
+use Rattle.polyvalues.specs.Polyvalues.{paired, inUse}
 use Rattle.book.specs.declared.Book.{Book}
 use Rattle.book.specs.declared.tables.Tables.{Tables}
 use Rattle.book.specs.Book.{mostDistricts, noRecord, itemAt, itemDepends, someDepends, including}
@@ -46,13 +46,14 @@ full-free : (w q : ℕ) → dependsOn w (full w) q ≡ false
 unfolding dependsOn
 full-free w q = none-any (2 ^ w) _ (λ a h. rw (member-full w (withPlace w a q true) (place-lt w a q true), member-full w (withPlace w a q false) (place-lt w a q false)))
 
-pub certain-free : (p : Polyvalue) → Held p → p .count ≡ 1 → eqb (assignments (getD (p .pairs) 0 noPair)) (number always) ≡ true → (q : ℕ) → depends places (inUse p) q ≡ false
+pub certain-free : (p : Polyvalue) → p .count ≡ 1 → eqb (number (getD (p .conditions) 0 (ofNumber 0))) (number always) ≡ true → (q : ℕ) → depends places (inUse p) q ≡ false
 unfolding inUse depends
-certain-free p held one e q = rw one (go (p .pairs) (pairs-long held) e)
+certain-free p one e q = rw one (go (p .values) (p .conditions) e)
   where
-    go : (ps : List Pair) → length ps ≡ room → eqb (assignments (getD ps 0 noPair)) (number always) ≡ true → depends places (take 1 ps) q ≡ false
-    go [] l e = absurd (omega (arith, l))
-    go (x ∷ xs) l e = let same : assignments x ≡ full places = eqb-true (assignments x) (number always) e ∙ always-full in rw (same, full-free places q)
+    go : (vs : List ℤ) (cs : List Condition) → eqb (number (getD cs 0 (ofNumber 0))) (number always) ≡ true → depends places (take 1 (paired vs cs)) q ≡ false
+    go [] cs e = refl
+    go (v ∷ vs) [] e = refl
+    go (v ∷ vs) (c ∷ cs) e = let same : number c ≡ full places = eqb-true (number c) (number always) e ∙ always-full in rw (same, full-free places q)
 
 pub none-in-set : (k : ℕ) (f : ℕ → Bool) → ((q : ℕ) → f q ≡ false) → 0 ≡ setOf k f
 none-in-set k f e = is-setOf k 0 f (pow-pos k) (λ n h. member-none n ∙ sym (e n))

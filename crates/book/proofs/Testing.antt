@@ -9,11 +9,13 @@ use lib.Dec.{eqb, leb, ltb}
 use lib.ListN.{getD}
 use lib.Seq.{take-all}
 use Rattle.polyvalues.specs.declared.polyvalue.Polyvalue.{Polyvalue}
-use Rattle.polyvalues.specs.Polyvalues.{room, inUse}
+use Rattle.polyvalues.specs.Values.{equal}
+use Rattle.polyvalues.specs.Polyvalues.{room, rowsOf, inUse}
 use Rattle.polyvalues.specs.Polyvalues.{sound as soundPolyvalue}
 use Rattle.polyvalues.specs.Operations.{same, together}
 use Rattle.polyvalues.proofs.Laws.Packed.{sound-well-formed}
-use Rattle.polyvalues.proofs.Known.{Held, pairs-long}
+use Rattle.polyvalues.proofs.Laws.Paired.{AllRows, rows-long}
+use Rattle.polyvalues.proofs.Known.{Held, all-rows}
 use Rattle.conditions.specs.Below.{first}
 use Rattle.conditions.specs.Places.{places}
 use Rattle.conditions.proofs.Laws.Below.{and-left, and-right, by-cases}
@@ -22,19 +24,24 @@ use Rattle.book.specs.declared.Item.{Item}
 use Rattle.book.specs.declared.Open.{Open}
 use Rattle.book.specs.declared.Book.{Book}
 use Rattle.book.specs.Book.{mostDistricts, mostItems, lastNumber, noRecord, noItem, noOpen, recordOn, itemAt, itemOn, named, placeOf, itemDepends}
-use Rattle.book.specs.SoundTest.{implies, samePolyvalue, sameItem, soundPending, soundRow, soundItem}
-use Rattle.book.proofs.Laws.Same.{same-polyvalue}
+use Rattle.book.specs.SoundTest.{implies, sameRows, sameCondition, samePolyvalue, sameItem, soundPending, soundRow, soundItem}
+use Rattle.book.proofs.Laws.Same.{same-paired, same-polyvalue}
 use Rattle.book.proofs.Laws.Room.{together-self}
 
 -- ---- all rows
 
 -- a polyvalue with all its rows in use
 abbrev pub whole : Polyvalue → Polyvalue
-whole q = record { count = room; pairs = q .pairs }
+whole q = record { count = room; values = q .values; conditions = q .conditions }
 
-pub whole-same : {q r : Polyvalue} → Held q → Held r → same (inUse (whole q)) (inUse (whole r)) ≡ same (q .pairs) (r .pairs)
+pub whole-same : {q r : Polyvalue} → Held q → Held r → same (inUse (whole q)) (inUse (whole r))
+    ≡ (sameRows equal (q .values) (r .values) && sameRows sameCondition (q .conditions) (r .conditions))
 unfolding inUse
-whole-same {q} {r} h l = ap₂ same (take-all room (q .pairs) (omega (arith, pairs-long h))) (take-all room (r .pairs) (omega (arith, pairs-long l)))
+whole-same {q} {r} h l =
+    let all : AllRows q = all-rows h in
+    let other : AllRows r = all-rows l in
+    ap₂ same (take-all room (rowsOf q) (omega (arith, rows-long all))) (take-all room (rowsOf r) (omega (arith, rows-long other)))
+    ∙ same-paired (q .values) (r .values) (q .conditions) (r .conditions) (all .values ∙ sym (all .conditions)) (other .values ∙ sym (other .conditions))
 
 -- ---- the place of a transaction
 

@@ -53,7 +53,7 @@ noBook w = record {
 
 -- what the logic reads past the end of an array: an array inside has no rows there, so this is no row of a book
 abbrev pub void : Polyvalue
-void = record { count = 0; pairs = [] }
+void = record { count = 0; values = []; conditions = [] }
 
 -- the same of a table of items
 abbrev pub voidItem : Item

@@ -1,13 +1,17 @@
 -- Soundness as a test, row by row: "15: the book handed in is not sound" (document 01, Answer numbers). proofs/Laws/Sound.antt shows that it agrees with `Sound`.
-use mathlib.Core.Bool.{Bool, true, not, _&&_, cond}
+use mathlib.Core.Bool.{Bool, true, false, not, _&&_, cond}
+use mathlib.Core.List.{List, [], _∷_}
 use Prim.Native.Nat.{ℕ, _^_}
 use lib.Dec.{eqb, leb, ltb}
+use Rattle.conditions.specs.declared.condition.Condition.{Condition}
 use Rattle.conditions.specs.Below.{all}
+use Rattle.conditions.specs.Conditions.{number}
 use Rattle.conditions.specs.Sets.{member}
 use Rattle.polyvalues.specs.declared.polyvalue.Polyvalue.{Polyvalue}
 use Rattle.polyvalues.specs.Polyvalues.{room, inUse}
 use Rattle.polyvalues.specs.Polyvalues.{sound as soundPolyvalue}
-use Rattle.polyvalues.specs.Operations.{together, same}
+use Rattle.polyvalues.specs.Operations.{together}
+use Rattle.polyvalues.specs.Values.{equal}
 use Rattle.book.specs.declared.Record.{Record}
 use Rattle.book.specs.declared.Item.{Item}
 use Rattle.book.specs.declared.Open.{Open}
@@ -21,9 +25,20 @@ implies x y = cond x y true
 
 -- ---- equal rows
 
+-- two arrays are the same, row by row
+abbrev pub sameRows : {A : Type 0} → (A → A → Bool) → List A → List A → Bool
+sameRows f [] [] = true
+sameRows f [] (y ∷ ys) = false
+sameRows f (x ∷ xs) [] = false
+sameRows f (x ∷ xs) (y ∷ ys) = f x y && sameRows f xs ys
+
+-- two conditions are the same set
+abbrev pub sameCondition : Condition → Condition → Bool
+sameCondition c d = eqb (number c) (number d)
+
 -- two polyvalues are the same, rows past the count too
 unfoldable pub samePolyvalue : Polyvalue → Polyvalue → Bool
-samePolyvalue q r = eqb (q .count) (r .count) && same (q .pairs) (r .pairs)
+samePolyvalue q r = eqb (q .count) (r .count) && (sameRows equal (q .values) (r .values) && sameRows sameCondition (q .conditions) (r .conditions))
 
 -- two items are
 unfoldable pub sameItem : Item → Item → Bool

@@ -187,13 +187,10 @@ impl Worked {
 fn nothing_worked() -> Worked
     ensures { λ r. ⌜ r ≡ nothingWorked ⌝ }
 {
-    let blank = Pair {
-        value: 0,
-        condition: Condition::EMPTY,
-    };
     let none = Polyvalue {
         count: 0,
-        pairs: [blank; PAIRS],
+        values: [0; PAIRS],
+        conditions: [Condition::EMPTY; PAIRS],
     };
     Worked {
         fits: true,

@@ -18,7 +18,6 @@ use conditions::Condition;
 use conditions::PLACES;
 use conditions::TransactionNumber;
 use polyvalues::PAIRS;
-use polyvalues::Pair;
 use polyvalues::Polyvalue;
 use polyvalues::in_range;
 
@@ -32,13 +31,10 @@ pub struct Openings {
 pub(crate) fn zero_item() -> Item
     ensures { λ r. ⌜ r ≡ noItem ⌝ }
 {
-    let blank = Pair {
-        value: 0,
-        condition: Condition::EMPTY,
-    };
     let zero = Polyvalue {
         count: 0,
-        pairs: [blank; PAIRS],
+        values: [0; PAIRS],
+        conditions: [Condition::EMPTY; PAIRS],
     };
     Item {
         district: 0,

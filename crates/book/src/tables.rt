@@ -138,8 +138,8 @@ fn is_certain(p: Polyvalue) -> bool
     if p.count != 1 {
         return false;
     }
-    let row = p.pairs[0];
-    row.condition.same(Condition::FULL)
+    let condition = p.conditions[0];
+    condition.same(Condition::FULL)
 }
 
 // Whether both of the item's are.

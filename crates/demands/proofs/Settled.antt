@@ -4,15 +4,15 @@ use mathlib.Core.Bool.{true}
 use Prim.Native.Nat.{ℕ, _^_, _<_}
 use native.Mathlib.Omega.{arith}
 use lib.Dec.{ltb}
-use lib.ListN.{length}
 use lib.Seq.{ext-getD}
 use borrow.Author.Tests.{ltb-true, ltb-false}
 use Rattle.conditions.proofs.Laws.Below.{by-cases}
 use Rattle.polyvalues.specs.declared.polyvalue.Polyvalue.{Polyvalue}
 use Rattle.polyvalues.specs.Pairs.{at}
-use Rattle.polyvalues.specs.Polyvalues.{room, inUse, packed}
+use Rattle.polyvalues.specs.Polyvalues.{inUse, packed}
 use Rattle.polyvalues.specs.Polyvalues.{sound as soundPolyvalue}
 use Rattle.polyvalues.proofs.Laws.Canon.{unique}
+use Rattle.polyvalues.proofs.Laws.Paired.{AllRows}
 use Rattle.polyvalues.proofs.Laws.Packed.{sound-well-formed, sound-packed}
 use Rattle.book.specs.declared.Book.{Book}
 use Rattle.book.specs.declared.Open.{Open}
@@ -24,7 +24,7 @@ use Rattle.demands.specs.Calls.{Call}
 use Rattle.demands.specs.Demands.{pendingAt, Values, EachValue, Records, rowAfter, Leaves}
 
 -- two polyvalues that choose alike are one
-same-polyvalue : (w : ℕ) (p q : Polyvalue) → length (p .pairs) ≡ room → length (q .pairs) ≡ room → soundPolyvalue w p ≡ true → soundPolyvalue w q ≡ true
+same-polyvalue : (w : ℕ) (p q : Polyvalue) → AllRows p → AllRows q → soundPolyvalue w p ≡ true → soundPolyvalue w q ≡ true
     → ((a : ℕ) → a < 2 ^ w → at (inUse p) a ≡ at (inUse q) a) → p ≡ q
 same-polyvalue w p q long wide s t f =
     sym (sound-packed w p long s) ∙ ap packed (unique w (inUse p) (inUse q) (sound-well-formed w p s .complete) (sound-well-formed w q t .complete) f) ∙ sound-packed w q wide t

@@ -18,7 +18,7 @@ use Rattle.polyvalues.specs.declared.polyvalue.Pair.{Pair}
 use Rattle.polyvalues.specs.declared.polyvalue.Polyvalue.{Polyvalue}
 use Rattle.polyvalues.specs.declared.scan.Scan.{Scan}
 use Rattle.polyvalues.specs.Pairs.{noPair, applies, at, hits, asked}
-use Rattle.polyvalues.specs.Polyvalues.{inUse}
+use Rattle.polyvalues.specs.Polyvalues.{rowsOf, inUse}
 use Rattle.polyvalues.proofs.Joining.{in-use-row}
 use Rattle.polyvalues.specs.Asked.{unseen, counted, found}
 
@@ -64,6 +64,6 @@ left-end ps i a s e = rw (e, drop-length ps) (left-none s a)
 
 -- ---- at the row i of a polyvalue
 
-pub left-row : (q : Polyvalue) (i a : ℕ) (s : Scan) → i < length (inUse q)
-    → left (counted s (getD (q .pairs) i noPair) a) (drop (i + 1) (inUse q)) a ≡ left s (drop i (inUse q)) a
-left-row q i a s h = rw (sym (in-use-row q i h)) (left-next (inUse q) i a s h)
+pub left-row : (q : Polyvalue) (i a : ℕ) (s : Scan) {p : Pair} → p ≡ getD (rowsOf q) i noPair → i < length (inUse q)
+    → left (counted s p a) (drop (i + 1) (inUse q)) a ≡ left s (drop i (inUse q)) a
+left-row q i a s e h = rw (sym (in-use-row q i e h)) (left-next (inUse q) i a s h)

@@ -19,31 +19,31 @@ use Rattle.polyvalues.specs.declared.polyvalue.Pair.{Pair}
 use Rattle.polyvalues.specs.declared.polyvalue.Polyvalue.{Polyvalue}
 use Rattle.polyvalues.specs.Values.{inRange, below}
 use Rattle.polyvalues.specs.Pairs.{noPair, blank, assignments, hits}
-use Rattle.polyvalues.specs.Polyvalues.{each, risesFrom, rises, ofPlaces, proper, room, inUse, wellFormed}
+use Rattle.polyvalues.specs.Polyvalues.{each, risesFrom, rises, ofPlaces, proper, room, rowsOf, inUse, wellFormed}
 use Rattle.polyvalues.specs.Checked.{belowAll, rowFits, checkedFrom}
 use Rattle.polyvalues.proofs.Laws.Cover.{covers, covers-test}
 use Rattle.polyvalues.proofs.Joining.{in-use-row}
 
 -- ---- rows past the count
 
-pub blank-more : (q : Polyvalue) (i : ℕ) → i < length (q .pairs) → each blank (drop i (q .pairs)) ≡ (blank (getD (q .pairs) i noPair) && each blank (drop (suc i) (q .pairs)))
-blank-more q i h = rw (drop-cons (q .pairs) i noPair h)
+pub blank-more : (q : Polyvalue) (i : ℕ) {p : Pair} → p ≡ getD (rowsOf q) i noPair → i < length (rowsOf q)
+    → each blank (drop i (rowsOf q)) ≡ (blank p && each blank (drop (suc i) (rowsOf q)))
+blank-more q i e h = rw (drop-cons (rowsOf q) i noPair h, sym e)
 
-pub blank-done : (q : Polyvalue) (i : ℕ) → length (q .pairs) ≤ i → each blank (drop i (q .pairs)) ≡ true
-blank-done q i h = rw (drop-of-length-le (q .pairs) h)
+pub blank-done : (q : Polyvalue) (i : ℕ) → length (rowsOf q) ≤ i → each blank (drop i (rowsOf q)) ≡ true
+blank-done q i h = rw (drop-of-length-le (rowsOf q) h)
 
 -- ---- rows in use
 
-pub checked-more : (w : ℕ) (v : ℤ) (s : ℕ) (q : Polyvalue) (i : ℕ) → i < length (inUse q)
-    → checkedFrom w v s (drop i (inUse q))
-    ≡ (rowFits w v s (getD (q .pairs) i noPair) && checkedFrom w (getD (q .pairs) i noPair .value) (union w s (assignments (getD (q .pairs) i noPair))) (drop (suc i) (inUse q)))
+pub checked-more : (w : ℕ) (v : ℤ) (s : ℕ) (q : Polyvalue) (i : ℕ) {p : Pair} → p ≡ getD (rowsOf q) i noPair → i < length (inUse q)
+    → checkedFrom w v s (drop i (inUse q)) ≡ (rowFits w v s p && checkedFrom w (p .value) (union w s (assignments p)) (drop (suc i) (inUse q)))
 unfolding checkedFrom
-checked-more w v s q i h = rw (drop-cons (inUse q) i noPair h, in-use-row q i h)
+checked-more w v s q i e h = rw (drop-cons (inUse q) i noPair h, in-use-row q i e h)
 
-pub checked-turn : (w : ℕ) (v : ℤ) (s : ℕ) (q : Polyvalue) (i : ℕ) {c : ℕ} {target : Bool} → i < length (inUse q) → checkedFrom w v s (drop i (inUse q)) ≡ target
-    → rowFits w v s (getD (q .pairs) i noPair) ≡ true → c ≡ union w s (assignments (getD (q .pairs) i noPair))
-    → checkedFrom w (getD (q .pairs) i noPair .value) c (drop (suc i) (inUse q)) ≡ target
-checked-turn w v s q i h left fits e = rw e (sym (checked-more w v s q i h ∙ rw fits) ∙ left)
+pub checked-turn : (w : ℕ) (v : ℤ) (s : ℕ) (q : Polyvalue) (i : ℕ) {p : Pair} {c : ℕ} {target : Bool} → p ≡ getD (rowsOf q) i noPair → i < length (inUse q)
+    → checkedFrom w v s (drop i (inUse q)) ≡ target → rowFits w v s p ≡ true → c ≡ union w s (assignments p)
+    → checkedFrom w (p .value) c (drop (suc i) (inUse q)) ≡ target
+checked-turn w v s q i e h left fits f = rw f (sym (checked-more w v s q i e h ∙ rw fits) ∙ left)
 
 pub checked-done : (w : ℕ) (v : ℤ) (s : ℕ) (ps : List Pair) (i : ℕ) → length ps ≤ i → checkedFrom w v s (drop i ps) ≡ eqb s (full w)
 unfolding checkedFrom

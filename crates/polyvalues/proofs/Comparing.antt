@@ -14,7 +14,7 @@ use Rattle.polyvalues.specs.declared.polyvalue.Pair.{Pair}
 use Rattle.polyvalues.specs.declared.polyvalue.Polyvalue.{Polyvalue}
 use Rattle.polyvalues.specs.Values.{equal}
 use Rattle.polyvalues.specs.Pairs.{assignments, noPair}
-use Rattle.polyvalues.specs.Polyvalues.{inUse, packed}
+use Rattle.polyvalues.specs.Polyvalues.{rowsOf, inUse, packed}
 use Rattle.polyvalues.specs.Operations.{occurs, different, together, same}
 use Rattle.polyvalues.proofs.Laws.Room.{occurs-append}
 use Rattle.polyvalues.proofs.Joining.{in-use-row, packed-in-use}
@@ -30,20 +30,20 @@ same-length (p ∷ ps) (q ∷ qs) e = ap suc (same-length ps qs (and-right (equa
 pub same-not : (ps qs : List Pair) → (length ps ≡ length qs → ⊥) → false ≡ same ps qs
 same-not ps qs n = by-cases (same ps qs) (λ e. absurd (n (same-length ps qs e))) sym
 
-pub same-more : (p q : Polyvalue) (i : ℕ) → i < length (inUse p) → i < length (inUse q)
+pub same-more : (p q : Polyvalue) (i : ℕ) {row twin : Pair} → row ≡ getD (rowsOf p) i noPair → twin ≡ getD (rowsOf q) i noPair
+    → i < length (inUse p) → i < length (inUse q)
     → same (drop i (inUse p)) (drop i (inUse q))
-    ≡ (equal (getD (p .pairs) i noPair .value) (getD (q .pairs) i noPair .value) && eqb (assignments (getD (p .pairs) i noPair)) (assignments (getD (q .pairs) i noPair))
-    && same (drop (suc i) (inUse p)) (drop (suc i) (inUse q)))
-same-more p q i h l = rw (drop-cons (inUse p) i noPair h, drop-cons (inUse q) i noPair l, in-use-row p i h, in-use-row q i l)
+    ≡ (equal (row .value) (twin .value) && eqb (assignments row) (assignments twin) && same (drop (suc i) (inUse p)) (drop (suc i) (inUse q)))
+same-more p q i e f h l = rw (drop-cons (inUse p) i noPair h, drop-cons (inUse q) i noPair l, in-use-row p i e h, in-use-row q i f l)
 
 pub same-done : (ps qs : List Pair) (i : ℕ) → length ps ≤ i → length qs ≤ i → same (drop i ps) (drop i qs) ≡ true
 same-done ps qs i h l = rw (drop-of-length-le ps h, drop-of-length-le qs l)
 
 -- ---- values that occur
 
-pub occurs-more : (v : ℤ) (q : Polyvalue) (i : ℕ) → i < length (inUse q)
-    → occurs v (drop i (inUse q)) ≡ (equal v (getD (q .pairs) i noPair .value) || occurs v (drop (suc i) (inUse q)))
-occurs-more v q i h = rw (drop-cons (inUse q) i noPair h, in-use-row q i h)
+pub occurs-more : (v : ℤ) (q : Polyvalue) (i : ℕ) {p : Pair} → p ≡ getD (rowsOf q) i noPair → i < length (inUse q)
+    → occurs v (drop i (inUse q)) ≡ (equal v (p .value) || occurs v (drop (suc i) (inUse q)))
+occurs-more v q i e h = rw (drop-cons (inUse q) i noPair h, in-use-row q i e h)
 
 pub occurs-done : (v : ℤ) (ps : List Pair) (i : ℕ) → length ps ≤ i → occurs v (drop i ps) ≡ false
 occurs-done v ps i h = rw (drop-of-length-le ps h)

@@ -1,12 +1,12 @@
 -- A pair joined into the rows of a polyvalue: what the code leaves is what the definition says, packed.
 use mathlib.Core.Path.{_≡_, refl, sym, ap, ap₂, _∙_}
 use mathlib.Core.Bool.{Bool, true, false, _&&_}
-use mathlib.Core.List.{List, [], _∷_, _++_, append-nil, append-assoc}
+use mathlib.Core.List.{List, [], _∷_, _++_, map, append-nil, append-assoc}
 use Prim.Native.Nat.{ℕ, suc, _+_, _-_, _≤_, _<_, min}
 use native.Mathlib.Omega.{arith}
 use lib.Dec.{leb, ltb}
 use lib.IntN.{ℤ}
-use lib.ListN.{length, getD, take, drop, set, replicate, length-append, length-take, length-drop, length-set, length-replicate, replicate-append-replicate, take-append-drop, drop-of-length-le, List·getD-append}
+use lib.ListN.{length, getD, take, drop, set, replicate, length-append, length-take, length-drop, length-set, length-replicate, length-map, replicate-append-replicate, take-append-drop, drop-of-length-le, List·getD-append}
 use lib.Seq.{take-all, drop-cons, length-take-le, take-append-le, drop-append-le, set-append-left, set-at}
 use borrow.Author.Tests.{ltb-true, le-leb, lt-leb, leb-true, leb-false, lt-ltb}
 use Rattle.conditions.specs.declared.condition.Condition.{Condition}
@@ -19,10 +19,11 @@ use Rattle.polyvalues.specs.declared.polyvalue.Polyvalue.{Polyvalue}
 use Rattle.polyvalues.specs.declared.polyvalue.Joined.{Joined}
 use Rattle.polyvalues.specs.Values.{below, equal}
 use Rattle.polyvalues.specs.Pairs.{pair, assignments, noPair, certain}
-use Rattle.polyvalues.specs.Polyvalues.{room, inUse, packed, fitted}
+use Rattle.polyvalues.specs.Polyvalues.{room, paired, rowsOf, inUse, padded, packed, fitted}
 use Rattle.polyvalues.specs.Simplify.{insert}
 use Rattle.polyvalues.specs.Rows.{valueAt, PlaceOf, hasAt, carried, moved}
 use Rattle.polyvalues.proofs.Laws.Values.{equal-true, below-else}
+use Rattle.polyvalues.proofs.Laws.Paired.{rows-packed, paired-set, values-paired, conditions-paired, AllRows}
 use Rattle.polyvalues.proofs.Laws.Rows.{insert-new, insert-same}
 
 -- a pair of the code is known by its value and its condition's number
@@ -31,10 +32,13 @@ pair-is v c e = ap (λ (k : Condition). record { value = v; condition = k }) (sy
 
 -- ---- packed rows
 
-pub packed-is : (ps : List Pair) {n : ℕ} {rows : List Pair} → n ≡ length ps → rows ≡ ps ++ replicate (room - length ps) noPair
-    → _≡_ {A = Polyvalue} (record { count = n; pairs = rows }) (packed ps)
+pub packed-is : (ps : List Pair) {n : ℕ} {vs : List ℤ} {cs : List Condition} → n ≡ length ps → length vs ≡ length cs → paired vs cs ≡ padded ps
+    → _≡_ {A = Polyvalue} (record { count = n; values = vs; conditions = cs }) (packed ps)
 unfolding packed
-packed-is ps e f = λ i. record { count = e i; pairs = f i }
+packed-is ps {vs = vs} {cs = cs} e l f =
+    let values : vs ≡ map (λ p. p .value) (padded ps) = sym (values-paired vs cs l) ∙ ap (map (λ p. p .value)) f in
+    let conditions : cs ≡ map (λ p. p .condition) (padded ps) = sym (conditions-paired vs cs l) ∙ ap (map (λ p. p .condition)) f in
+    λ i. record { count = e i; values = values i; conditions = conditions i }
 
 pub fitted-yes : (q : Polyvalue) (ps : List Pair) → length ps ≤ room → fitted q ps ≡ record { fits = true; polyvalue = packed ps }
 unfolding fitted
@@ -44,11 +48,11 @@ pub fitted-no : (q : Polyvalue) (ps : List Pair) → room < length ps → fitted
 unfolding fitted
 fitted-no q ps h = rw (lt-leb (length ps) room h)
 
-pub in-use-length : (q : Polyvalue) → length (inUse q) ≡ min (q .count) (length (q .pairs))
+pub in-use-length : (q : Polyvalue) → length (inUse q) ≡ min (q .count) (length (rowsOf q))
 unfolding inUse
-in-use-length q = length-take (q .count) (q .pairs)
+in-use-length q = length-take (q .count) (rowsOf q)
 
-pub in-use-le : (q : Polyvalue) → length (q .pairs) ≡ room → length (inUse q) ≤ room
+pub in-use-le : (q : Polyvalue) → length (rowsOf q) ≡ room → length (inUse q) ≤ room
 in-use-le q l = omega (arith, in-use-length q)
 
 -- a polyvalue whose rows past the count are zero
@@ -57,12 +61,17 @@ module _ (q : Polyvalue) (tidy : q ≡ packed (inUse q)) where
   unfolding packed
   tidy-count = ap (λ (r : Polyvalue). r .count) tidy
 
-  pub tidy-pairs : q .pairs ≡ inUse q ++ replicate (room - length (inUse q)) noPair
-  unfolding packed
-  tidy-pairs = ap (λ (r : Polyvalue). r .pairs) tidy
+  pub tidy-rows : rowsOf q ≡ padded (inUse q)
+  tidy-rows = ap (λ (r : Polyvalue). rowsOf r) tidy ∙ rows-packed (inUse q)
 
-  pub row-at : (j : ℕ) → j < length (inUse q) → getD (q .pairs) j noPair ≡ getD (inUse q) j noPair
-  row-at j h = ap (λ (l : List Pair). getD l j noPair) tidy-pairs ∙ List·getD-append (inUse q) _ noPair j h
+  tidy-even : length (q .values) ≡ length (q .conditions)
+  unfolding packed
+  tidy-even =
+      ap (λ (r : Polyvalue). length (r .values)) tidy ∙ length-map (padded (inUse q)) (λ p. p .value)
+      ∙ sym (length-map (padded (inUse q)) (λ p. p .condition)) ∙ ap (λ (r : Polyvalue). length (r .conditions)) (sym tidy)
+
+  pub row-at : (j : ℕ) → j < length (inUse q) → getD (rowsOf q) j noPair ≡ getD (inUse q) j noPair
+  row-at j h = ap (λ (l : List Pair). getD l j noPair) tidy-rows ∙ List·getD-append (inUse q) _ noPair j h
 
 pub has-lt : (q : Polyvalue) (k : ℕ) (v : ℤ) → hasAt q k v ≡ true → k < q .count
 has-lt q k v e = ltb-true k (q .count) (and-left (ltb k (q .count)) (equal (valueAt q k) v) e)
@@ -104,28 +113,31 @@ module _ (w : ℕ) (q : Polyvalue) (new : Pair) (k : ℕ) (tidy : q ≡ packed (
       ap (λ (p : Pair). below (p .value) (new .value)) (sym (row-at q tidy j (omega arith))) ∙ place .before j h
 
   -- the row of its value takes the union
-  pub inserted-same : {both : Pair} → hasAt q k (new .value) ≡ true → both ≡ pair (new .value) (union w (assignments (getD (q .pairs) k noPair)) (assignments new))
-      → _≡_ {A = Joined} (record { fits = true; polyvalue = record { count = q .count; pairs = set (q .pairs) k both } }) (fitted q (insert w (new .value) (assignments new) (inUse q)))
-  inserted-same {both} has is =
+  pub inserted-same : {there both : Pair} → hasAt q k (new .value) ≡ true → there ≡ getD (rowsOf q) k noPair → both ≡ pair (new .value) (union w (assignments there) (assignments new))
+      → _≡_ {A = Joined} (record { fits = true; polyvalue = record { count = q .count; values = set (q .values) k (both .value); conditions = set (q .conditions) k (both .condition) } })
+      (fitted q (insert w (new .value) (assignments new) (inUse q)))
+  inserted-same {both = both} has at is =
       let h : k < length (inUse q) = omega (arith, has-lt q k (new .value) has, tidy-count q tidy) in
-      let row : getD (q .pairs) k noPair ≡ getD (inUse q) k noPair = row-at q tidy k h in
+      let row : getD (rowsOf q) k noPair ≡ getD (inUse q) k noPair = row-at q tidy k h in
       let value : getD (inUse q) k noPair .value ≡ new .value =
       sym (ap (λ (p : Pair). p .value) row) ∙ equal-true _ _ (and-right (ltb k (q .count)) (equal (valueAt q k) (new .value)) has) in
       let result : insert w (new .value) (assignments new) (inUse q) ≡ set (inUse q) k both =
       insert-same w (new .value) (assignments new) (inUse q) k h before value
-      ∙ ap (set (inUse q) k) (ap (λ (p : Pair). pair (new .value) (union w (assignments p) (assignments new))) (sym row) ∙ sym is) in
+      ∙ ap (set (inUse q) k) (ap (λ (p : Pair). pair (new .value) (union w (assignments p) (assignments new))) (sym (at ∙ row)) ∙ sym is) in
       let long : length (set (inUse q) k both) ≡ length (inUse q) = length-set (inUse q) k both in
+      let even : length (set (q .values) k (both .value)) ≡ length (set (q .conditions) k (both .condition)) =
+      length-set (q .values) k (both .value) ∙ tidy-even q tidy ∙ sym (length-set (q .conditions) k (both .condition)) in
       rw (result, fitted-yes q (set (inUse q) k both) (omega arith))
       (ap (λ (r : Polyvalue). record { fits = true; polyvalue = r })
-      (packed-is (set (inUse q) k both) (tidy-count q tidy ∙ sym long)
-      (rw long (ap (λ (l : List Pair). set l k both) (tidy-pairs q tidy) ∙ set-append-left (inUse q) _ k both h))))
+      (packed-is (set (inUse q) k both) (tidy-count q tidy ∙ sym long) even
+      (rw long (paired-set (q .values) (q .conditions) k (both .value) (both .condition) ∙ ap (λ (l : List Pair). set l k both) (tidy-rows q tidy) ∙ set-append-left (inUse q) _ k both h))))
 
   result-new : hasAt q k (new .value) ≡ false → insert w (new .value) (assignments new) (inUse q) ≡ take k (inUse q) ++ new ∷ drop k (inUse q)
   result-new has =
       insert-new w (new .value) (assignments new) (inUse q) k within before
       (λ h.
       let l : k < q .count = omega (arith, tidy-count q tidy) in
-      let row : getD (q .pairs) k noPair ≡ getD (inUse q) k noPair = row-at q tidy k h in
+      let row : getD (rowsOf q) k noPair ≡ getD (inUse q) k noPair = row-at q tidy k h in
       let apart : equal (valueAt q k) (new .value) ≡ false = ap (λ (b : Bool). b && equal (valueAt q k) (new .value)) (sym (lt-ltb k (q .count) l)) ∙ has in
       ap (λ (p : Pair). below (new .value) (p .value)) (sym row) ∙ below-else (valueAt q k) (new .value) (place .stops l) apart)
 
@@ -136,24 +148,25 @@ module _ (w : ℕ) (q : Polyvalue) (new : Pair) (k : ℕ) (tidy : q ≡ packed (
       rw (result-new has) (sym (fitted-no q _ (omega (arith, length-new (inUse q) k new within, tidy-count q tidy))))
 
   -- and room for it
-  pub inserted-new : {rows : List Pair} → hasAt q k (new .value) ≡ false → q .count < room → rows ≡ moved k (q .count) new (q .pairs)
-      → _≡_ {A = Joined} (record { fits = true; polyvalue = record { count = q .count + 1; pairs = rows } }) (fitted q (insert w (new .value) (assignments new) (inUse q)))
-  inserted-new has space is =
+  pub inserted-new : {rows : Polyvalue} → AllRows rows → hasAt q k (new .value) ≡ false → q .count < room → rowsOf rows ≡ moved k (q .count) new (rowsOf q)
+      → _≡_ {A = Joined} (record { fits = true; polyvalue = record { count = q .count + 1; values = rows .values; conditions = rows .conditions } })
+      (fitted q (insert w (new .value) (assignments new) (inUse q)))
+  inserted-new all has space is =
       let count : q .count ≡ length (inUse q) = tidy-count q tidy in
       let long : length (take k (inUse q) ++ new ∷ drop k (inUse q)) ≡ suc (length (inUse q)) = length-new (inUse q) k new within in
       rw (result-new has, fitted-yes q (take k (inUse q) ++ new ∷ drop k (inUse q)) (omega arith))
       (ap (λ (r : Polyvalue). record { fits = true; polyvalue = r })
-      (packed-is (take k (inUse q) ++ new ∷ drop k (inUse q)) (omega arith)
-      (is ∙ ap₂ (λ (n : ℕ) (l : List Pair). moved k n new l) count (tidy-pairs q tidy) ∙ moved-rows (inUse q) k new within (omega arith)
+      (packed-is (take k (inUse q) ++ new ∷ drop k (inUse q)) (omega arith) (all .values ∙ sym (all .conditions))
+      (is ∙ ap₂ (λ (n : ℕ) (l : List Pair). moved k n new l) count (tidy-rows q tidy) ∙ moved-rows (inUse q) k new within (omega arith)
       ∙ ap (λ (n : ℕ). (take k (inUse q) ++ new ∷ drop k (inUse q)) ++ replicate (room - n) noPair) (sym long))))
 
 -- ---- no pairs, and one
 
 pub certain-packed : {q : Polyvalue} {v z : ℤ} → q ≡ packed [] → z ≡ v
-    → _≡_ {A = Polyvalue} (record { count = 1; pairs = set (q .pairs) 0 (record { value = z; condition = always }) }) (packed (certain places v))
+    → _≡_ {A = Polyvalue} (record { count = 1; values = set (q .values) 0 z; conditions = set (q .conditions) 0 always }) (packed (certain places v))
 unfolding packed certain
 certain-packed {q} {v} e f =
-    λ i. record { count = 1; pairs = set (e i .pairs) 0 (record { value = f i; condition = of-full i }) }
+    λ i. record { count = 1; values = set (e i .values) 0 (f i); conditions = set (e i .conditions) 0 (of-full i) }
   where
     of-full : always ≡ ofNumber (full places)
     of-full = sym (of-number always) ∙ ap ofNumber always-full
@@ -171,13 +184,13 @@ zeros-more n i ps h l =
     rw (drop-cons ps i noPair l, set-at (take n ps ++ replicate (i - n) noPair) (getD ps i noPair) (drop (suc i) ps) noPair i long, e, ← replicate-append-replicate (i - n) 1 noPair)
     (simp append-assoc)
 
-pub zeros-all : (q : Polyvalue) (n : ℕ) {rows : List Pair} → length (q .pairs) ≡ room → n ≡ length (inUse q) → n ≤ room
-    → rows ≡ take n (q .pairs) ++ replicate (room - n) noPair ++ drop room (q .pairs) → record { count = n; pairs = rows } ≡ packed (inUse q)
+pub zeros-all : (q : Polyvalue) (n : ℕ) {vs : List ℤ} {cs : List Condition} → length (rowsOf q) ≡ room → n ≡ length (inUse q) → n ≤ room → length vs ≡ length cs
+    → paired vs cs ≡ take n (rowsOf q) ++ replicate (room - n) noPair ++ drop room (rowsOf q) → record { count = n; values = vs; conditions = cs } ≡ packed (inUse q)
 unfolding inUse
-zeros-all q n l e h f =
-    packed-is (take (q .count) (q .pairs)) e
-    (f ∙ ap (λ (z : List Pair). take n (q .pairs) ++ replicate (room - n) noPair ++ z) (drop-of-length-le (q .pairs) {i = room} (omega arith))
-    ∙ append-nil _ ∙ ap₂ (λ (x : List Pair) (k : ℕ). x ++ replicate (room - k) noPair) (same-take (q .count) n (q .pairs) e) e)
+zeros-all q n l e h even f =
+    packed-is (take (q .count) (rowsOf q)) e even
+    (f ∙ ap (λ (z : List Pair). take n (rowsOf q) ++ replicate (room - n) noPair ++ z) (drop-of-length-le (rowsOf q) {i = room} (omega arith))
+    ∙ append-nil _ ∙ ap₂ (λ (x : List Pair) (k : ℕ). x ++ replicate (room - k) noPair) (same-take (q .count) n (rowsOf q) e) e)
   where
     same-take : (k n : ℕ) (ps : List Pair) → n ≡ length (take k ps) → take n ps ≡ take k ps
     same-take k n ps e = by-cases (leb k (length ps))

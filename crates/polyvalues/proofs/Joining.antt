@@ -15,7 +15,7 @@ use Rattle.polyvalues.specs.declared.polyvalue.Polyvalue.{Polyvalue}
 use Rattle.polyvalues.specs.declared.polyvalue.Joined.{Joined}
 use Rattle.polyvalues.specs.declared.operations.Cut.the-variants.{Reduced, Completed, Aborted}
 use Rattle.polyvalues.specs.Pairs.{pair, assignments, noPair, applies, depends, applying}
-use Rattle.polyvalues.specs.Polyvalues.{room, inUse, packed, fitted}
+use Rattle.polyvalues.specs.Polyvalues.{room, rowsOf, inUse, packed, fitted}
 use Rattle.polyvalues.specs.Simplify.{join, simplifiedFrom, simplified}
 use Rattle.polyvalues.specs.Operations.{cut, changed, reduce, select}
 use Rattle.polyvalues.proofs.Laws.Simplify.{grows-from, length-simplified}
@@ -53,36 +53,35 @@ refit-no q t ps e f = sym (fitted-no q ps (fits-no t ps e f))
 
 -- ---- rows
 
--- a row in use is one of the list
-pub in-use-row : (q : Polyvalue) (i : ℕ) → i < length (inUse q) → getD (inUse q) i noPair ≡ getD (q .pairs) i noPair
+-- the code's row i, if it is in use, is one of the list
+pub in-use-row : (q : Polyvalue) (i : ℕ) {p : Pair} → p ≡ getD (rowsOf q) i noPair → i < length (inUse q) → getD (inUse q) i noPair ≡ p
 unfolding inUse
-in-use-row q i h = getD-take (q .count) (q .pairs) i noPair (omega (arith, in-use-length q))
+in-use-row q i e h = getD-take (q .count) (rowsOf q) i noPair (omega (arith, in-use-length q)) ∙ sym e
 
 -- the row i of what is left is joined
-pub rows-more : (w : ℕ) (f : ℕ → ℕ) (done : List Pair) (q : Polyvalue) (i : ℕ) → i < length (inUse q)
-    → simplifiedFrom w done (changed f (drop i (inUse q)))
-    ≡ simplifiedFrom w (join w (getD (q .pairs) i noPair .value) (f (assignments (getD (q .pairs) i noPair))) done) (changed f (drop (suc i) (inUse q)))
+pub rows-more : (w : ℕ) (f : ℕ → ℕ) (done : List Pair) (q : Polyvalue) (i : ℕ) {p : Pair} → p ≡ getD (rowsOf q) i noPair → i < length (inUse q)
+    → simplifiedFrom w done (changed f (drop i (inUse q))) ≡ simplifiedFrom w (join w (p .value) (f (assignments p)) done) (changed f (drop (suc i) (inUse q)))
 unfolding simplifiedFrom
-rows-more w f done q i h = rw (drop-cons (inUse q) i noPair h, in-use-row q i h)
+rows-more w f done q i e h = rw (drop-cons (inUse q) i noPair h, in-use-row q i e h)
 
 pub rows-done : (w : ℕ) (f : ℕ → ℕ) (done rows : List Pair) (i : ℕ) → length rows ≤ i → simplifiedFrom w done (changed f (drop i rows)) ≡ done
 unfolding simplifiedFrom
 rows-done w f done rows i h = rw (drop-of-length-le rows h)
 
 -- one row more without dependence
-pub depends-more : (w : ℕ) (q : Polyvalue) (p i : ℕ) → i < length (inUse q)
-    → depends w (drop i (inUse q)) p ≡ (dependsOn w (assignments (getD (q .pairs) i noPair)) p || depends w (drop (suc i) (inUse q)) p)
+pub depends-more : (w : ℕ) (q : Polyvalue) (k i : ℕ) {p : Pair} → p ≡ getD (rowsOf q) i noPair → i < length (inUse q)
+    → depends w (drop i (inUse q)) k ≡ (dependsOn w (assignments p) k || depends w (drop (suc i) (inUse q)) k)
 unfolding depends
-depends-more w q p i h = rw (drop-cons (inUse q) i noPair h, in-use-row q i h)
+depends-more w q k i e h = rw (drop-cons (inUse q) i noPair h, in-use-row q i e h)
 
 pub depends-done : (w : ℕ) (rows : List Pair) (p i : ℕ) → length rows ≤ i → depends w (drop i rows) p ≡ false
 unfolding depends
 depends-done w rows p i h = rw (drop-of-length-le rows h)
 
 -- one row more that does not apply
-pub applying-more : (q : Polyvalue) (a i : ℕ) → i < length (inUse q)
-    → applying (drop i (inUse q)) a ≡ cond (applies (getD (q .pairs) i noPair) a) (getD (q .pairs) i noPair) (applying (drop (suc i) (inUse q)) a)
-applying-more q a i h = rw (drop-cons (inUse q) i noPair h, in-use-row q i h)
+pub applying-more : (q : Polyvalue) (a i : ℕ) {p : Pair} → p ≡ getD (rowsOf q) i noPair → i < length (inUse q)
+    → applying (drop i (inUse q)) a ≡ cond (applies p a) p (applying (drop (suc i) (inUse q)) a)
+applying-more q a i e h = rw (drop-cons (inUse q) i noPair h, in-use-row q i e h)
 
 pub applying-done : (rows : List Pair) (a i : ℕ) → length rows ≤ i → applying (drop i rows) a ≡ noPair
 applying-done rows a i h = rw (drop-of-length-le rows h)
@@ -122,14 +121,14 @@ selected-rows w i done gone t e =
 
 -- ---- one turn of the loop over the rows: `new` is row i with its condition changed
 
-module _ (w : ℕ) (f : ℕ → ℕ) (done rows : Polyvalue) (i : ℕ) (target : List Pair) {new : Pair} {r : Joined} (more : i < length (inUse rows))
+module _ (w : ℕ) (f : ℕ → ℕ) (done rows : Polyvalue) (i : ℕ) (target : List Pair) {row new : Pair} {r : Joined} (at : row ≡ getD (rowsOf rows) i noPair) (more : i < length (inUse rows))
     (left : simplifiedFrom w (inUse done) (changed f (drop i (inUse rows))) ≡ target)
-    (is : new ≡ pair (getD (rows .pairs) i noPair .value) (f (assignments (getD (rows .pairs) i noPair))))
+    (is : new ≡ pair (row .value) (f (assignments row)))
     (e : r ≡ fitted done (join w (new .value) (assignments new) (inUse done))) where
   after : simplifiedFrom w (join w (new .value) (assignments new) (inUse done)) (changed f (drop (suc i) (inUse rows))) ≡ target
   after =
       ap (λ (p : Pair). simplifiedFrom w (join w (p .value) (assignments p) (inUse done)) (changed f (drop (suc i) (inUse rows)))) is
-      ∙ sym (rows-more w f (inUse done) rows i more) ∙ left
+      ∙ sym (rows-more w f (inUse done) rows i at more) ∙ left
 
   pub turn-fits : r .fits ≡ true
       → (r .polyvalue ≡ packed (inUse (r .polyvalue))) × (length (inUse (r .polyvalue)) ≤ room)

@@ -10,6 +10,7 @@ pub mod Depends
 pub mod Operations
 pub mod Room
 pub mod WellFormed
+pub mod Paired
 pub mod Packed
 pub mod Rows
 pub mod Cover

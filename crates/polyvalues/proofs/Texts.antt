@@ -23,7 +23,7 @@ use Rattle.polyvalues.specs.declared.polyvalue.Pair.{Pair}
 use Rattle.polyvalues.specs.declared.polyvalue.Polyvalue.{Polyvalue}
 use Rattle.polyvalues.specs.Values.{below, valueText}
 use Rattle.polyvalues.specs.Pairs.{assignments, noPair}
-use Rattle.polyvalues.specs.Polyvalues.{inUse}
+use Rattle.polyvalues.specs.Polyvalues.{rowsOf, inUse}
 use Rattle.polyvalues.specs.Text.{pairText, lineText}
 use Rattle.polyvalues.proofs.Joining.{in-use-row}
 
@@ -114,14 +114,14 @@ module _ (w : ℕ) (n : ℕ → ℕ) where
   module _ (q : Polyvalue) where
     -- the pair of row i, and the pairs from row i on
     abbrev rowText : ℕ → List ℕ
-    rowText i = pairText w n (getD (q .pairs) i noPair)
+    rowText i = pairText w n (getD (rowsOf q) i noPair)
 
     abbrev rest : ℕ → List ℕ
     rest i = rowsText (drop i (inUse q))
 
     rest-more : (i : ℕ) → i < length (inUse q) → rest i ≡ bytes " " ++ rowText i ++ rest (suc i)
     unfolding prefixed
-    rest-more i h = rw (drop-cons (inUse q) i noPair h, in-use-row q i h)
+    rest-more i h = rw (drop-cons (inUse q) i noPair h, in-use-row q i refl h)
 
     pub rest-length : (i : ℕ) → i < length (inUse q) → length (rest i) ≡ 1 + length (rowText i) + length (rest (i + 1))
     rest-length i h = rw (add-one i, rest-more i h) (simp length-append (omega arith))

@@ -1,12 +1,13 @@
 -- "A polyvalue is 1 to 8 pairs of value and condition, values strictly rising, no condition empty, each assignment in exactly one condition." (document 01, The book)
 use mathlib.Core.Path.{_≡_}
 use mathlib.Core.Bool.{Bool, true, false, not, _&&_, cond}
-use mathlib.Core.List.{List, [], _∷_, _++_}
+use mathlib.Core.List.{List, [], _∷_, _++_, map}
 use Prim.Native.Nat.{ℕ, _-_, _^_, _≤_, _<_}
 use lib.Dec.{eqb, leb, ltb}
 use lib.IntN.{ℤ}
 use lib.ListN.{length, take, drop, replicate}
 use Rattle.conditions.specs.Below.{all}
+use Rattle.conditions.specs.declared.condition.Condition.{Condition}
 use Rattle.conditions.specs.Conditions.{empty}
 use Rattle.polyvalues.specs.declared.polyvalue.Pair.{Pair}
 use Rattle.polyvalues.specs.declared.polyvalue.Polyvalue.{Polyvalue}
@@ -66,21 +67,35 @@ wellFormed w ps =
 
 -- ---- as the code keeps it: any count and any rows may be handed in
 
+-- values and their conditions, row by row
+abbrev pub paired : List ℤ → List Condition → List Pair
+paired [] cs = []
+paired (v ∷ vs) [] = []
+paired (v ∷ vs) (c ∷ cs) = record { value = v; condition = c } ∷ paired vs cs
+
+-- its rows
+abbrev pub rowsOf : Polyvalue → List Pair
+rowsOf q = paired (q .values) (q .conditions)
+
 -- the pairs that count
 unfoldable pub inUse : Polyvalue → List Pair
-inUse q = take (q .count) (q .pairs)
+inUse q = take (q .count) (rowsOf q)
 
 -- "rows past the counts .. hold zeros"
 unfoldable pub tidy : Polyvalue → Bool
-tidy q = each blank (drop (q .count) (q .pairs))
+tidy q = each blank (drop (q .count) (rowsOf q))
 
 -- the count is one that there is room for, and what counts is well formed
 unfoldable pub sound : ℕ → Polyvalue → Bool
 sound w q = leb (q .count) room && (tidy q && wellFormed w (inUse q))
 
+-- these pairs, and rows of zeros past them
+abbrev pub padded : List Pair → List Pair
+padded ps = ps ++ replicate (room - length ps) noPair
+
 -- the polyvalue of these pairs, if there is room for them
 unfoldable pub packed : List Pair → Polyvalue
-packed ps = record { count = length ps; pairs = ps ++ replicate (room - length ps) noPair }
+packed ps = record { count = length ps; values = map (λ p. p .value) (padded ps); conditions = map (λ p. p .condition) (padded ps) }
 
 -- as the code answers where there may be too little room: these pairs, or the polyvalue q as it was
 unfoldable pub fitted : Polyvalue → List Pair → Joined

@@ -10,10 +10,11 @@ use Rattle.polyvalues.specs.declared.polyvalue.Pair.{Pair}
 use Rattle.polyvalues.specs.declared.polyvalue.Polyvalue.{Polyvalue}
 use Rattle.polyvalues.specs.Values.{below, equal}
 use Rattle.polyvalues.specs.Pairs.{noPair}
+use Rattle.polyvalues.specs.Polyvalues.{rowsOf}
 
 -- the value of row k
 abbrev pub valueAt : Polyvalue → ℕ → ℤ
-valueAt q k = getD (q .pairs) k noPair .value
+valueAt q k = getD (rowsOf q) k noPair .value
 
 -- k is the first row whose value is not below v
 pub record PlaceOf (q : Polyvalue) (v : ℤ) (k : ℕ) : Type 0 where

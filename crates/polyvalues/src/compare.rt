@@ -38,8 +38,8 @@ impl Polyvalue {
         }
         let mut i: usize = 0;
         while i < n {
-            let row = self.pairs[i];
-            let twin = other.pairs[i];
+            let row = self.row(i);
+            let twin = other.row(i);
             if !row.same(twin) {
                 return false;
             }
@@ -55,7 +55,7 @@ impl Polyvalue {
         let n = self.len();
         let mut i = from;
         while i < n {
-            let row = self.pairs[i];
+            let row = self.row(i);
             if pair.equal(row) {
                 return true;
             }
@@ -70,7 +70,7 @@ impl Polyvalue {
         ensures { λ r. ⌜ r ≡ digit (not (occurs (getD (inUse self) i noPair .value) (drop (suc i) (inUse self) ++ inUse other))) ⌝ }
         ensures { λ r. ⌜ r ≤ 1 ⌝ }
     {
-        let row = self.pairs[i];
+        let row = self.row(i);
         if self.occurs(row, i + 1) {
             return 0;
         }

@@ -69,7 +69,7 @@ fn join_rows(start: Polyvalue, rows: Polyvalue, place: Place, how: Cut) -> Joine
     let mut done = start;
     let mut i: usize = 0;
     while i < n {
-        let row = rows.pairs[i];
+        let row = rows.row(i);
         let next = with_pair(done, cut_pair(row, place, how));
         if !next.fits {
             return Joined {
@@ -117,7 +117,7 @@ impl Polyvalue {
         let n = self.len();
         let mut i: usize = 0;
         while i < n {
-            let row = self.pairs[i];
+            let row = self.row(i);
             if row.condition.depends(place) {
                 return true;
             }
@@ -133,7 +133,7 @@ impl Polyvalue {
         let n = self.len();
         let mut i: usize = 0;
         while i < n {
-            let row = self.pairs[i];
+            let row = self.row(i);
             if row.condition.contains(assignment) {
                 return row;
             }

@@ -1,12 +1,12 @@
 // Pairs of value and condition, and the polyvalue as the code keeps it.
 ghost use mathlib.Core.Path.{_≡_};
 ghost use mathlib.Core.List.{[]};
-ghost use Prim.Native.Nat.{_≤_};
-ghost use lib.ListN.{length};
+ghost use Prim.Native.Nat.{_≤_, _<_};
+ghost use lib.ListN.{length, getD};
 ghost use Rattle.conditions.specs.Places.{places};
 ghost use Rattle.polyvalues.specs.Values.{below, equal};
-ghost use Rattle.polyvalues.specs.Pairs.{certain};
-ghost use Rattle.polyvalues.specs.Polyvalues.{room, inUse, packed};
+ghost use Rattle.polyvalues.specs.Pairs.{noPair, certain};
+ghost use Rattle.polyvalues.specs.Polyvalues.{room, rowsOf, inUse, packed};
 use crate::value::below;
 use crate::value::equal;
 use conditions::Condition;
@@ -20,10 +20,12 @@ pub struct Pair {
     pub condition: Condition,
 }
 
-// The first `count` pairs count; the rows past them are zero.
+// The first `count` rows count; the rows past them are zero. A row is a value and the condition at
+// the same index: in arrays of their own they need no padding, and rows of zeros are told at once.
 pub struct Polyvalue {
     pub count: usize,
-    pub pairs: [Pair; PAIRS],
+    pub values: [i16; PAIRS],
+    pub conditions: [Condition; PAIRS],
 }
 
 // A polyvalue with something joined into it, or that there was no room for a ninth value, and then
@@ -57,17 +59,24 @@ impl Pair {
 pub(crate) fn nothing() -> Polyvalue
     ensures { λ r. ⌜ r ≡ packed [] ⌝ }
 {
-    let blank = Pair {
-        value: 0,
-        condition: Condition::EMPTY,
-    };
     Polyvalue {
         count: 0,
-        pairs: [blank; PAIRS],
+        values: [0; PAIRS],
+        conditions: [Condition::EMPTY; PAIRS],
     }
 }
 
 impl Polyvalue {
+    // The pair of row i.
+    pub(crate) fn row(self, i: usize) -> Pair
+        requires { ⌜ i < room ⌝ }
+        ensures { λ r. ⌜ r ≡ getD (rowsOf self) i noPair ⌝ }
+    {
+        let value = self.values[i];
+        let condition = self.conditions[i];
+        Pair { value, condition }
+    }
+
     // How many rows are in use: any count may be handed in.
     pub(crate) fn len(self) -> usize
         ensures { λ r. ⌜ r ≡ length (inUse self) ⌝ }
@@ -85,17 +94,19 @@ impl Polyvalue {
         ensures { λ r. ⌜ r ≡ packed (inUse self) ⌝ }
     {
         let n = self.len();
-        let mut pairs = self.pairs;
-        let blank = Pair {
-            value: 0,
-            condition: Condition::EMPTY,
-        };
+        let mut values = self.values;
+        let mut conditions = self.conditions;
         let mut i = n;
         while i < PAIRS {
-            pairs[i] = blank;
+            values[i] = 0;
+            conditions[i] = Condition::EMPTY;
             i += 1;
         }
-        Polyvalue { count: n, pairs }
+        Polyvalue {
+            count: n,
+            values,
+            conditions,
+        }
     }
 
     // One pair that always applies.
@@ -104,10 +115,8 @@ impl Polyvalue {
     {
         let mut q = nothing();
         q.count = 1;
-        q.pairs[0] = Pair {
-            value,
-            condition: Condition::FULL,
-        };
+        q.values[0] = value;
+        q.conditions[0] = Condition::FULL;
         q
     }
 }

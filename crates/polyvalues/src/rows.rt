@@ -6,7 +6,7 @@ ghost use Prim.Native.Nat.{_<_, _≤_};
 ghost use Rattle.conditions.specs.Places.{places};
 ghost use Rattle.conditions.specs.Conditions.{union};
 ghost use Rattle.polyvalues.specs.Pairs.{pair, assignments};
-ghost use Rattle.polyvalues.specs.Polyvalues.{room, inUse, packed, fitted};
+ghost use Rattle.polyvalues.specs.Polyvalues.{room, rowsOf, inUse, packed, fitted};
 ghost use Rattle.polyvalues.specs.Simplify.{insert, join};
 ghost use Rattle.polyvalues.specs.Rows.{PlaceOf, hasAt, moved};
 use crate::polyvalue::Joined;
@@ -21,7 +21,7 @@ fn place_of(q: Polyvalue, new: Pair) -> usize
 {
     let mut k: usize = 0;
     while k < q.count {
-        let row = q.pairs[k];
+        let row = q.row(k);
         if !row.below(new) {
             return k;
         }
@@ -36,27 +36,30 @@ fn has_at(q: Polyvalue, k: usize, new: Pair) -> bool
     ensures { λ r. ⌜ r ≡ hasAt q k (new .value) ⌝ }
 {
     if k < q.count {
-        let row = q.pairs[k];
+        let row = q.row(k);
         return row.equal(new);
     }
     false
 }
 
 // The rows from k to n moved down by one, with a new one at k.
-fn moved(rows: [Pair; PAIRS], k: usize, n: usize, new: Pair) -> [Pair; PAIRS]
+fn moved(q: Polyvalue, k: usize, n: usize, new: Pair) -> Polyvalue
     requires { ⌜ (k ≤ n) × (n < room) ⌝ }
-    ensures { λ r. ⌜ r ≡ moved k n new rows ⌝ }
+    ensures { λ r. ⌜ rowsOf r ≡ moved k n new (rowsOf q) ⌝ }
 {
-    let mut pairs = rows;
+    let mut rows = q;
     let mut carry = new;
     let mut i = k;
     while i <= n {
-        let row = pairs[i];
-        pairs[i] = carry;
+        let row = rows.row(i);
+        let value = carry.value;
+        let condition = carry.condition;
+        rows.values[i] = value;
+        rows.conditions[i] = condition;
         carry = row;
         i += 1;
     }
-    pairs
+    rows
 }
 
 // The new pair's condition added to that of a row with its value.
@@ -76,14 +79,17 @@ fn inserted(q: Polyvalue, new: Pair) -> Joined
 {
     let k = place_of(q, new);
     let n = q.count;
-    let mut pairs = q.pairs;
     if has_at(q, k, new) {
-        let row = pairs[k];
+        let mut joined = q;
+        let row = q.row(k);
         let both = united(row, new);
-        pairs[k] = both;
+        let value = both.value;
+        let condition = both.condition;
+        joined.values[k] = value;
+        joined.conditions[k] = condition;
         return Joined {
             fits: true,
-            polyvalue: Polyvalue { count: n, pairs },
+            polyvalue: joined,
         };
     }
     if PAIRS <= n {
@@ -92,12 +98,15 @@ fn inserted(q: Polyvalue, new: Pair) -> Joined
             polyvalue: q,
         };
     }
-    let rows = moved(pairs, k, n, new);
+    let rows = moved(q, k, n, new);
+    let values = rows.values;
+    let conditions = rows.conditions;
     Joined {
         fits: true,
         polyvalue: Polyvalue {
             count: n + 1,
-            pairs: rows,
+            values,
+            conditions,
         },
     }
 }

@@ -95,7 +95,7 @@ impl Polyvalue {
         let mut scan = start();
         let mut i: usize = 0;
         while i < n {
-            let pair = self.pairs[i];
+            let pair = self.row(i);
             scan = step(scan, pair, assignment);
             i += 1;
         }

@@ -58,7 +58,7 @@ impl Polyvalue {
     {
         let mut i = self.count;
         while i < PAIRS {
-            let row = self.pairs[i];
+            let row = self.row(i);
             if !row.is_blank() {
                 return false;
             }
@@ -79,7 +79,7 @@ impl Polyvalue {
         let mut covered = Condition::EMPTY;
         let mut i: usize = 0;
         while i < n {
-            let row = self.pairs[i];
+            let row = self.row(i);
             if !row.follows(last, covered) {
                 return false;
             }

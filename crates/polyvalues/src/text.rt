@@ -135,7 +135,7 @@ fn put_line(buf: &mut [u8], at: usize, q: Polyvalue, numbers: [TransactionNumber
     let mut end = put_decimal(buf, at, n as u64);
     let mut i: usize = 0;
     while i < n {
-        let row = q.pairs[i];
+        let row = q.row(i);
         end = put_byte(buf, end, b' ');
         end = put_pair(buf, end, row, numbers);
         i += 1;
@@ -153,7 +153,7 @@ impl Polyvalue {
         let mut len = decimal_len(n as u64);
         let mut i: usize = 0;
         while i < n {
-            let row = self.pairs[i];
+            let row = self.row(i);
             len += 1 + pair_len(row, numbers);
             i += 1;
         }

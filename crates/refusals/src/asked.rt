@@ -5,7 +5,6 @@ use conditions::ASSIGNMENTS;
 use conditions::Condition;
 use conditions::Place;
 use polyvalues::Asked;
-use polyvalues::Pair;
 use polyvalues::Polyvalue;
 
 // Asks the pairs for their value under the assignment.
@@ -21,18 +20,17 @@ fn value_under(p: Polyvalue, assignment: usize) {
 }
 
 pub(crate) fn lists() {
-    let done = Pair {
-        value: 4,
-        condition: Condition::completed(Place(0)),
-    };
+    let done = Condition::completed(Place(0));
     let mut p = Polyvalue::certain(5);
     value_under(p, ASSIGNMENTS - 1);
     value_under(p, ASSIGNMENTS);
-    p.pairs[1] = done;
+    p.values[1] = 4;
+    p.conditions[1] = done;
     p.count = 2;
     value_under(p, 0);
     value_under(p, 1);
-    p.pairs[0] = done;
+    p.values[0] = 4;
+    p.conditions[0] = done;
     p.count = 1;
     value_under(p, 0);
     value_under(p, 1);

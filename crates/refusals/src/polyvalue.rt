@@ -7,7 +7,6 @@ use book::Book;
 use conditions::Condition;
 use conditions::Place;
 use polyvalues::PAIRS;
-use polyvalues::Pair;
 use polyvalues::Polyvalue;
 
 // 0 where the place completes, 3 where it aborts.
@@ -39,7 +38,8 @@ pub(crate) fn eight_values() -> Polyvalue {
 fn with_pair(p: Polyvalue, i: usize, value: i16, condition: Condition) -> Polyvalue {
     let mut q = p;
     if i < PAIRS {
-        q.pairs[i] = Pair { value, condition };
+        q.values[i] = value;
+        q.conditions[i] = condition;
     }
     q
 }

@@ -41,7 +41,8 @@ use Rattle.book.proofs.Laws.Sound.{place-named}
 use Rattle.book.proofs.Laws.Shaped.{ShapedItem, Shaped, getD-set}
 use Rattle.book.proofs.Laws.Values.{begin-item}
 use Rattle.book.proofs.Laws.But.{DistrictRow, ItemRow, OpenRow, SoundBut, sound-but, placeOf-is, placeOf-kept, seen-same, district-stays, item-stays, on-busy, place-open}
-use Rattle.book.proofs.Laws.Settling.{packed-length, neither-depends, depends-neither}
+use Rattle.polyvalues.proofs.Laws.Paired.{packed-rows}
+use Rattle.book.proofs.Laws.Settling.{neither-depends, depends-neither}
 
 -- a set of districts below the count
 set-below : (k m : ℕ) (f : ℕ → Bool) → m ≤ k → ((d : ℕ) → d < k → f d ≡ true → d < m) → setOf k f < 2 ^ m
@@ -362,7 +363,7 @@ module _ (w : ℕ) (b : Book) (sound : Sound w b) (t : Shaped w b) (xs : List St
       by-cases (ltb i (b .count))
       (λ k. let a : i < b .count = ltb-true i (b .count) k in
       by-cases (touches xs i)
-      (λ z. rw (begin-item w b sound t xs i a, itemTouched i x z) (record { held = t .rows i h .held; pending = packed-length (results w b xs i) (results-few i z) }))
+      (λ z. rw (begin-item w b sound t xs i a, itemTouched i x z) (record { held = t .rows i h .held; pending = packed-rows (results w b xs i) (results-few i z) }))
       (λ z. rw (begin-item w b sound t xs i a, itemElse i x z) (t .rows i h)))
       (λ k. rw (past i (ltb-false i (b .count) k)) (t .rows i h))
 

@@ -14,16 +14,16 @@ use Rattle.book.specs.Open.{goodItems, goodOpening, openedItem, openedBo
 use Rattle.book.proofs.Laws.Same.{five}
 use Rattle.book.proofs.Laws.Open.{opened-sound}
 use Rattle.book.proofs.Laws.Shaped.{ShapedItem, Shaped}
-use Rattle.book.proofs.Laws.Settling.{packed-length}
+use Rattle.polyvalues.proofs.Laws.Paired.{packed-rows}
 use Rattle.book.proofs.Laws.Calls.{Whole}
 
 opened-item-shaped : (w : ℕ) (x : Opening) → ShapedItem (openedItem w x)
 unfolding openedItem certain
-opened-item-shaped w x = let e = packed-length (certain w (x .value)) (omega arith) in record { held = e; pending = e }
+opened-item-shaped w x = let e = packed-rows (certain w (x .value)) (omega arith) in record { held = e; pending = e }
 
 no-item-shaped : ShapedItem noItem
 unfolding noItem
-no-item-shaped = let e = packed-length [] (omega arith) in record { held = e; pending = e }
+no-item-shaped = let e = packed-rows [] (omega arith) in record { held = e; pending = e }
 
 rows-shaped : (w : ℕ) (xs : List Opening) (n i : ℕ) → i < length xs + n → ShapedItem (getD (map (openedItem w) xs ++ replicate n noItem) i voidItem)
 rows-shaped w [] zero i h = absurd (omega arith)

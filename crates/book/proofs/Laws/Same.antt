@@ -1,14 +1,21 @@
 -- Rows that pass the test of equality are equal, and only they.
-use mathlib.Core.Path.{_≡_, refl, ap, ap₂}
-use mathlib.Core.Bool.{Bool, true, _&&_, false≢true}
+use mathlib.Core.Path.{_≡_, refl, sym, ap, ap₂, _∙_}
+use mathlib.Core.Bool.{Bool, true, false, _&&_, false≢true}
 use mathlib.Core.List.{List, [], _∷_}
+use native.Mathlib.Omega.{arith}
 use lib.Dec.{eqb}
+use lib.IntN.{ℤ}
+use lib.ListN.{length}
 use borrow.Author.Tests.{eq-eqb, eqb-true}
+use Rattle.conditions.specs.declared.condition.Condition.{Condition}
+use Rattle.conditions.specs.Conditions.{number, ofNumber}
+use Rattle.conditions.proofs.Laws.Conditions.{of-number}
 use Rattle.conditions.proofs.Laws.Below.{and-left, and-right}
 use Rattle.polyvalues.specs.declared.polyvalue.Pair.{Pair}
 use Rattle.polyvalues.specs.declared.polyvalue.Polyvalue.{Polyvalue}
 use Rattle.polyvalues.specs.Values.{equal}
 use Rattle.polyvalues.specs.Pairs.{assignments}
+use Rattle.polyvalues.specs.Polyvalues.{paired}
 use Rattle.polyvalues.proofs.Laws.Values.{equal-refl, equal-true}
 use Rattle.polyvalues.proofs.Laws.Holds.{same-pair}
 use Rattle.polyvalues.specs.Operations.{same}
@@ -16,7 +23,7 @@ use Rattle.book.specs.declared.Record.{Record}
 use Rattle.book.specs.declared.Item.{Item}
 use Rattle.book.specs.declared.Open.{Open}
 use Rattle.book.specs.Book.{noRecord, noOpen}
-use Rattle.book.specs.SoundTest.{samePolyvalue, sameItem, zeroRecord, zeroOpen}
+use Rattle.book.specs.SoundTest.{sameRows, sameCondition, samePolyvalue, sameItem, zeroRecord, zeroOpen}
 
 -- ---- tests that hold together
 
@@ -47,20 +54,55 @@ same-pairs (p ∷ ps) (q ∷ qs) e =
     let t = three (equal (p .value) (q .value)) (eqb (assignments p) (assignments q)) (same ps qs) e in
     ap₂ _∷_ (same-pair p q (equal-true (p .value) (q .value) (t .0)) (eqb-true (assignments p) (assignments q) (t .1))) (same-pairs ps qs (t .2))
 
-pairs-same : (ps : List Pair) → same ps ps ≡ true
-pairs-same [] = refl
-pairs-same (p ∷ ps) = ap₂ _&&_ (ap₂ _&&_ (equal-refl (p .value)) (eq-eqb (assignments p) (assignments p) refl)) (pairs-same ps)
+-- of any array
+same-rows : {A : Type 0} (f : A → A → Bool) → ((x y : A) → f x y ≡ true → x ≡ y) → (xs ys : List A) → sameRows f xs ys ≡ true → xs ≡ ys
+same-rows f g [] [] e = refl
+same-rows f g [] (y ∷ ys) e = absurd (false≢true e)
+same-rows f g (x ∷ xs) [] e = absurd (false≢true e)
+same-rows f g (x ∷ xs) (y ∷ ys) e = ap₂ _∷_ (g x y (and-left (f x y) _ e)) (same-rows f g xs ys (and-right (f x y) _ e))
+
+rows-same : {A : Type 0} (f : A → A → Bool) → ((x : A) → f x x ≡ true) → (xs : List A) → sameRows f xs xs ≡ true
+rows-same f g [] = refl
+rows-same f g (x ∷ xs) = ap₂ _&&_ (g x) (rows-same f g xs)
+
+same-condition : (c d : Condition) → sameCondition c d ≡ true → c ≡ d
+same-condition c d e = sym (of-number c) ∙ ap ofNumber (eqb-true (number c) (number d) e) ∙ of-number d
+
+-- rows of pairs are compared as their values and their conditions are
+pub same-paired : (vs us : List ℤ) (cs ds : List Condition) → length vs ≡ length cs → length us ≡ length ds
+    → same (paired vs cs) (paired us ds) ≡ (sameRows equal vs us && sameRows sameCondition cs ds)
+same-paired [] [] [] [] e f = refl
+same-paired [] [] [] (d ∷ ds) e f = absurd (omega arith)
+same-paired [] us (c ∷ cs) ds e f = absurd (omega arith)
+same-paired [] (u ∷ us) [] [] e f = absurd (omega arith)
+same-paired [] (u ∷ us) [] (d ∷ ds) e f = refl
+same-paired (v ∷ vs) us [] ds e f = absurd (omega arith)
+same-paired (v ∷ vs) [] (c ∷ cs) [] e f = refl
+same-paired (v ∷ vs) [] (c ∷ cs) (d ∷ ds) e f = absurd (omega arith)
+same-paired (v ∷ vs) (u ∷ us) (c ∷ cs) [] e f = absurd (omega arith)
+same-paired (v ∷ vs) (u ∷ us) (c ∷ cs) (d ∷ ds) e f =
+    ap (λ (b : Bool). equal v u && sameCondition c d && b) (same-paired vs us cs ds (omega arith) (omega arith))
+    ∙ apart (equal v u) (sameCondition c d) (sameRows equal vs us) (sameRows sameCondition cs ds)
+  where
+    apart : (a b x y : Bool) → (a && b && (x && y)) ≡ (a && x && (b && y))
+    apart true true x y = refl
+    apart true false true y = refl
+    apart true false false y = refl
+    apart false b x y = refl
 
 pub same-polyvalue : (q r : Polyvalue) → samePolyvalue q r ≡ true → q ≡ r
 unfolding samePolyvalue
 same-polyvalue q r e =
     let count = eqb-true (q .count) (r .count) (and-left (eqb (q .count) (r .count)) _ e) in
-    let pairs = same-pairs (q .pairs) (r .pairs) (and-right (eqb (q .count) (r .count)) _ e) in
-    λ k. record { count = count k; pairs = pairs k }
+    let rows = and-right (eqb (q .count) (r .count)) _ e in
+    let values = same-rows equal equal-true (q .values) (r .values) (and-left (sameRows equal (q .values) (r .values)) _ rows) in
+    let conditions = same-rows sameCondition same-condition (q .conditions) (r .conditions) (and-right (sameRows equal (q .values) (r .values)) _ rows) in
+    λ k. record { count = count k; values = values k; conditions = conditions k }
 
 pub polyvalue-same : (q r : Polyvalue) → q ≡ r → samePolyvalue q r ≡ true
 unfolding samePolyvalue
-polyvalue-same q r e = rw e (ap₂ _&&_ (eq-eqb (r .count) (r .count) refl) (pairs-same (r .pairs)))
+polyvalue-same q r e =
+    rw e (ap₂ _&&_ (eq-eqb (r .count) (r .count) refl) (ap₂ _&&_ (rows-same equal equal-refl (r .values)) (rows-same sameCondition (λ c. eq-eqb (number c) (number c) refl) (r .conditions))))
 
 pub same-item : (x y : Item) → sameItem x y ≡ true → x ≡ y
 unfolding sameItem

@@ -1,19 +1,17 @@
 -- What becomes of one item: where it is dropped, split, installed or reduced it stays sound, keeps its lengths, and depends on no other places.
 use mathlib.Core.Path.{_≡_, refl, sym, _∙_, ap, ap₂}
 use mathlib.Core.Bool.{Bool, true, false, _&&_, _||_, true≢false}
-use mathlib.Core.List.{List}
-use Prim.Native.Nat.{ℕ, _-_, _≤_, _<_}
+use Prim.Native.Nat.{ℕ, _≤_, _<_}
 use native.Mathlib.Omega.{arith}
 use borrow.Author.Tests.{eqb-true, eq-eqb, ne-eqb}
-use lib.ListN.{length, replicate, length-append, length-replicate}
 use Rattle.conditions.proofs.Laws.Below.{or-left, or-right, by-cases}
-use Rattle.polyvalues.specs.declared.polyvalue.Pair.{Pair}
-use Rattle.polyvalues.specs.Pairs.{noPair, depends}
-use Rattle.polyvalues.specs.Polyvalues.{room, inUse, packed, WellFormed}
+use Rattle.polyvalues.specs.Pairs.{depends}
+use Rattle.polyvalues.specs.Polyvalues.{inUse, WellFormed}
 use Rattle.polyvalues.specs.Polyvalues.{sound as soundPolyvalue}
 use Rattle.polyvalues.specs.Operations.{reduce, select}
 use Rattle.polyvalues.proofs.Laws.WellFormed.{reduce-well-formed, select-well-formed}
 use Rattle.polyvalues.proofs.Laws.Operations.{reduce-depends-not, select-depends-not}
+use Rattle.polyvalues.proofs.Laws.Paired.{packed-rows}
 use Rattle.polyvalues.proofs.Laws.Packed.{inUse-packed, packed-sound, sound-well-formed}
 use Rattle.book.specs.declared.Record.{Record}
 use Rattle.book.specs.declared.Item.{Item}
@@ -24,13 +22,6 @@ use Rattle.book.specs.Items.{there, concerned, install, drop, split, red
 use Rattle.book.proofs.Laws.Room.{together-swap, together-self, together-reduce}
 use Rattle.book.proofs.Laws.Shaped.{ShapedItem}
 use Rattle.book.proofs.Laws.But.{ItemRow, on-busy, busy-on, busy-is, is-busy}
-
--- ---- lengths
-
-pub packed-length : (ps : List Pair) → length ps ≤ room → length (packed ps .pairs) ≡ room
-unfolding packed
-packed-length ps h =
-    omega (arith, length-append ps (replicate (room - length ps) noPair), length-replicate (room - length ps) noPair)
 
 -- ---- what depends
 
@@ -75,7 +66,7 @@ module _ (w districts n q : ℕ) (x : Item) (f : ItemRow w districts n q x) wher
 
   pub split-shaped : (p : ℕ) → ShapedItem (split w p x)
   unfolding split
-  split-shaped p = let e = packed-length (select w p (inUse (x .pending)) (inUse (x .held))) (split-formed p .few) in record { held = e; pending = e }
+  split-shaped p = let e = packed-rows (select w p (inUse (x .pending)) (inUse (x .held))) (split-formed p .few) in record { held = e; pending = e }
 
   pub split-free : (p j : ℕ) → (p ≡ j → ⊥) → itemDepends w x j ≡ false → itemDepends w (split w p x) j ≡ false
   unfolding split
@@ -96,8 +87,8 @@ module _ (w districts n q : ℕ) (x : Item) (f : ItemRow w districts n q x) wher
   pub reduce-shaped : (p : ℕ) (o : Bool) → ShapedItem (reduceItem w p o x)
   unfolding reduceItem
   reduce-shaped p o = record {
-    held = packed-length (reduce w p o (inUse (x .held))) (reduce-well-formed w p o (inUse (x .held)) held-formed .few);
-    pending = packed-length (reduce w p o (inUse (x .pending))) (reduce-well-formed w p o (inUse (x .pending)) pending-formed .few);
+    held = packed-rows (reduce w p o (inUse (x .held))) (reduce-well-formed w p o (inUse (x .held)) held-formed .few);
+    pending = packed-rows (reduce w p o (inUse (x .pending))) (reduce-well-formed w p o (inUse (x .pending)) pending-formed .few);
   }
 
   pub reduce-free-of : (p j : ℕ) (o : Bool) → itemDepends w x j ≡ false → itemDepends w (reduceItem w p o x) j ≡ false

@@ -8,15 +8,15 @@ use lib.ListN.{length, getD, set}
 use lib.Seq.{getD-set-same, getD-set-other}
 use borrow.Author.Tests.{eqb-true, eqb-false}
 use Rattle.conditions.proofs.Laws.Below.{by-cases}
-use Rattle.polyvalues.specs.Polyvalues.{room}
+use Rattle.polyvalues.proofs.Laws.Paired.{AllRows}
 use Rattle.book.specs.declared.Item.{Item}
 use Rattle.book.specs.declared.Book.{Book}
 use Rattle.book.specs.Book.{mostDistricts, mostItems, itemAt}
 
--- an item's two arrays of pairs
+-- an item's two polyvalues
 pub record ShapedItem (x : Item) : Type 0 where
-  pub held : length (x .held .pairs) ≡ room
-  pub pending : length (x .pending .pairs) ≡ room
+  pub held : AllRows (x .held)
+  pub pending : AllRows (x .pending)
 
 -- a book of w places
 pub record Shaped (w : ℕ) (b : Book) : Type 0 where

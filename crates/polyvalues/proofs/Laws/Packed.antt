@@ -1,7 +1,7 @@
 -- A polyvalue as the code keeps it, and the list of its pairs.
 use mathlib.Core.Path.{_≡_, refl, sym, ap, ap₂, _∙_}
 use mathlib.Core.Bool.{true, _&&_}
-use mathlib.Core.List.{List, [], _∷_, _++_}
+use mathlib.Core.List.{List, [], _∷_, _++_, map}
 use Prim.Native.Nat.{ℕ, zero, suc, _-_, _≤_}
 use native.Mathlib.Omega.{arith}
 use lib.Dec.{eqb, leb}
@@ -14,33 +14,38 @@ use Rattle.polyvalues.specs.declared.polyvalue.Pair.{Pair}
 use Rattle.polyvalues.specs.declared.polyvalue.Polyvalue.{Polyvalue}
 use Rattle.polyvalues.specs.Values.{equal}
 use Rattle.polyvalues.specs.Pairs.{assignments, noPair}
-use Rattle.polyvalues.specs.Polyvalues.{each, room, sound, WellFormed, wellFormed, inUse, tidy, packed}
+use Rattle.polyvalues.specs.Polyvalues.{each, room, sound, WellFormed, wellFormed, rowsOf, inUse, tidy, padded, packed}
 use Rattle.polyvalues.proofs.Laws.Values.{equal-true}
 use Rattle.polyvalues.proofs.Laws.Holds.{same-pair}
+use Rattle.polyvalues.proofs.Laws.Paired.{rows-packed, values-paired, conditions-paired, AllRows, rows-long}
 use Rattle.polyvalues.proofs.Laws.WellFormed.{well-formed-true, true-well-formed}
 
 pub inUse-packed : (ps : List Pair) → inUse (packed ps) ≡ ps
 unfolding inUse packed
-inUse-packed ps = take-append-seam ps (replicate (room - length ps) noPair)
+inUse-packed ps = rw (rows-packed ps) (take-append-seam ps (replicate (room - length ps) noPair))
 
 tidy-packed : (ps : List Pair) → tidy (packed ps) ≡ true
 unfolding tidy packed
-tidy-packed ps = rw (drop-append-seam ps (replicate (room - length ps) noPair)) (blanks (room - length ps))
+tidy-packed ps = rw (rows-packed ps, drop-append-seam ps (replicate (room - length ps) noPair)) (blanks (room - length ps))
   where
     blanks : (n : ℕ) → each (λ p. equal (p .value) (pos 0) && eqb (assignments p) 0) (replicate n noPair) ≡ true
     blanks zero = refl
     blanks (suc n) = blanks n
 
-packed-tidy : (q : Polyvalue) → q .count ≤ room → length (q .pairs) ≡ room → tidy q ≡ true → packed (inUse q) ≡ q
+packed-tidy : (q : Polyvalue) → q .count ≤ room → AllRows q → tidy q ≡ true → packed (inUse q) ≡ q
 unfolding inUse tidy packed
-packed-tidy q c l t =
-    let count : length (take (q .count) (q .pairs)) ≡ q .count = length-take-le (q .count) (q .pairs) (omega arith) in
-    let rows : room - length (take (q .count) (q .pairs)) ≡ length (drop (q .count) (q .pairs)) = omega (arith, length-drop (q .count) (q .pairs)) in
-    let pairs : take (q .count) (q .pairs) ++ replicate (room - length (take (q .count) (q .pairs))) noPair ≡ q .pairs =
-    ap (λ n. take (q .count) (q .pairs) ++ replicate n noPair) rows
-    ∙ ap (λ r. take (q .count) (q .pairs) ++ r) (sym (blank (drop (q .count) (q .pairs)) t))
-    ∙ take-append-drop (q .count) (q .pairs) in
-    λ i. record { count = count i; pairs = pairs i }
+packed-tidy q c all t =
+    let l : length (rowsOf q) ≡ room = rows-long all in
+    let e : length (q .values) ≡ length (q .conditions) = all .values ∙ sym (all .conditions) in
+    let count : length (take (q .count) (rowsOf q)) ≡ q .count = length-take-le (q .count) (rowsOf q) (omega arith) in
+    let past : room - length (take (q .count) (rowsOf q)) ≡ length (drop (q .count) (rowsOf q)) = omega (arith, length-drop (q .count) (rowsOf q)) in
+    let rows : padded (take (q .count) (rowsOf q)) ≡ rowsOf q =
+    ap (λ n. take (q .count) (rowsOf q) ++ replicate n noPair) past
+    ∙ ap (λ r. take (q .count) (rowsOf q) ++ r) (sym (blank (drop (q .count) (rowsOf q)) t))
+    ∙ take-append-drop (q .count) (rowsOf q) in
+    let values : map (λ p. p .value) (padded (take (q .count) (rowsOf q))) ≡ q .values = ap (map (λ p. p .value)) rows ∙ values-paired (q .values) (q .conditions) e in
+    let conditions : map (λ p. p .condition) (padded (take (q .count) (rowsOf q))) ≡ q .conditions = ap (map (λ p. p .condition)) rows ∙ conditions-paired (q .values) (q .conditions) e in
+    λ i. record { count = count i; values = values i; conditions = conditions i }
   where
     blank : (ps : List Pair) → each (λ p. equal (p .value) (pos 0) && eqb (assignments p) 0) ps ≡ true → ps ≡ replicate (length ps) noPair
     blank [] e = refl
@@ -59,7 +64,7 @@ unfolding sound
 sound-well-formed w q e = true-well-formed w (inUse q) (and-right (tidy q) _ (and-right (leb (q .count) room) _ e))
 
 -- a sound polyvalue is known by its pairs
-pub sound-packed : (w : ℕ) (q : Polyvalue) → length (q .pairs) ≡ room → sound w q ≡ true → packed (inUse q) ≡ q
+pub sound-packed : (w : ℕ) (q : Polyvalue) → AllRows q → sound w q ≡ true → packed (inUse q) ≡ q
 unfolding sound
 sound-packed w q l e =
     packed-tidy q (leb-true (q .count) room (and-left (leb (q .count) room) _ e)) l

@@ -2,7 +2,6 @@
 use borrow.Author.Needs.{needs}
 use mathlib.Core.Path.{sym, _∙_}
 use mathlib.Core.Bool.{false≢true}
-use Rattle.polyvalues.proofs.Known.{Held}
 use Rattle.book.proofs.Needed.{certain-free}
 use Rattle.book.proofs.tables.is_certain.Statement.{statement}
 use Rattle.book.proofs.tables.is_certain.Tie as tie
@@ -10,16 +9,14 @@ use Rattle.book.proofs.tables.is_certain.Tie as tie
 returns : tie.Need-returns
 returns c e = absurd (false≢true e)
 
-element-copy-out-row : tie.Need-element-copy-out-row
-element-copy-out-row c = search needs
+element-copy-out-condition : tie.Need-element-copy-out-condition
+element-copy-out-condition c = search needs
 
 same-requires : tie.Need-same-requires
 same-requires c κs = search needs
 
 returns-2 : tie.Need-returns-2
-returns-2 c e =
-    let held : Held (c .before .before .before .args .t1) = record { values = _; own = c .before .before .before .good .0 } in
-    certain-free (c .before .before .before .args .t1) held (c .before .before .if1 .left) (sym (c .same .ensures) ∙ e)
+returns-2 c e = certain-free (c .before .before .before .args .t1) (c .before .before .if1 .left) (sym (c .same .ensures) ∙ e)
 
 pub is-certain-spec : {M : Type 1} → statement M
-is-certain-spec = tie.close (tie.spec returns element-copy-out-row same-requires returns-2)
+is-certain-spec = tie.close (tie.spec returns element-copy-out-condition same-requires returns-2)

@@ -11,38 +11,35 @@ use Rattle.polyvalues.specs.declared.polyvalue.Pair.{Pair}
 use Rattle.polyvalues.specs.Pairs.{noPair}
 use Rattle.polyvalues.specs.Polyvalues.{room, inUse}
 use Rattle.polyvalues.specs.Operations.{occurs}
-use Rattle.polyvalues.proofs.Known.{Held, pairs-long}
+use Rattle.polyvalues.proofs.Known.{Held, held-long}
 use Rattle.polyvalues.proofs.Inserting.{in-use-le}
 use Rattle.polyvalues.proofs.Joining.{in-use-row}
 use Rattle.polyvalues.proofs.Comparing.{adds-first, adds-second, adds-one}
 use Rattle.polyvalues.proofs.polyvalue.Polyvalue.adds.Statement.{statement}
 use Rattle.polyvalues.proofs.polyvalue.Polyvalue.adds.Tie as tie
 
-few : (s : tie.Start) → length (inUse (s .args .t1)) ≤ room
-few s = let held : Held (s .args .t1) = record { values = _; own = s .good .0 } in in-use-le (s .args .t1) (pairs-long held)
+few : (s : tie.Start) → length (inUse (s .args .self)) ≤ room
+few s = let held : Held (s .args .self) = record { values = _; own = s .good .0 } in in-use-le (s .args .self) (held-long held)
 
 -- row i's value, the rows after it, and the other polyvalue's
 abbrev value : tie.Start → ℤ
-value s = getD (inUse (s .args .t1)) (s .args .i) noPair .value
+value s = getD (inUse (s .args .self)) (s .args .i) noPair .value
 
 abbrev after : tie.Start → List Pair
-after s = drop (suc (s .args .i)) (inUse (s .args .t1))
+after s = drop (suc (s .args .i)) (inUse (s .args .self))
 
 abbrev others : tie.Start → List Pair
 others s = inUse (s .args .other)
 
 -- what the code found of them
 later : (c : tie.After-occurs) → occurs (value (c .before .before)) (after (c .before .before)) ≡ c .occurs .result
-later c = ap (λ (p : Pair). occurs (p .value) (after (c .before .before))) (in-use-row (c .before .before .args .t1) (c .before .before .args .i) (c .before .before .pre)) ∙ sym (rw add-one at (c .occurs .ensures))
+later c = ap (λ (p : Pair). occurs (p .value) (after (c .before .before))) (in-use-row (c .before .before .args .self) (c .before .before .args .i) (c .before .row .ensures) (c .before .before .pre)) ∙ sym (rw add-one at (c .occurs .ensures))
 
 beside : (c : tie.After-occurs2) → occurs (value (c .before .before .before .before)) (others (c .before .before .before .before)) ≡ c .occurs2 .result
-beside c = ap (λ (p : Pair). occurs (p .value) (others (c .before .before .before .before))) (in-use-row (c .before .before .before .before .args .t1) (c .before .before .before .before .args .i) (c .before .before .before .before .pre)) ∙ sym (c .occurs2 .ensures)
+beside c = ap (λ (p : Pair). occurs (p .value) (others (c .before .before .before .before))) (in-use-row (c .before .before .before .before .args .self) (c .before .before .before .before .args .i) (c .before .before .before .row .ensures) (c .before .before .before .before .pre)) ∙ sym (c .occurs2 .ensures)
 
-mul-row : tie.Need-mul-row
-mul-row c = record { fits = omega (arith, few c, c .pre) }
-
-element-copy-out-row : tie.Need-element-copy-out-row
-element-copy-out-row c = omega (arith, few c, c .pre)
+row-requires : tie.Need-row-requires
+row-requires c κs = omega (arith, few c, c .pre)
 
 add-occurs : tie.Need-add-occurs
 add-occurs c = record { fits = omega (arith, few (c .before), c .before .pre) }
@@ -66,8 +63,7 @@ pub adds-spec : {M : Type 1} → statement M
 adds-spec =
     tie.close
     (tie.spec
-    mul-row
-    element-copy-out-row
+    row-requires
     add-occurs
     occurs-requires
     returns

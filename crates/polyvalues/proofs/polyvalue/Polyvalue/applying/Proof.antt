@@ -4,19 +4,19 @@ use mathlib.Core.Bool.{Bool, cond}
 use Prim.Native.Nat.{suc, _-_}
 use native.Mathlib.Numerals.{add-one}
 use native.Mathlib.Omega.{arith}
-use lib.ListN.{drop, getD}
+use lib.ListN.{drop}
 use borrow.Author.Needs.{needs}
-use Rattle.polyvalues.specs.Pairs.{noPair, applying}
+use Rattle.polyvalues.specs.Pairs.{applying}
 use Rattle.polyvalues.specs.Polyvalues.{inUse}
 use Rattle.polyvalues.proofs.Joining.{applying-more, applying-done}
 use Rattle.polyvalues.proofs.polyvalue.Polyvalue.applying.Statement.{statement}
 use Rattle.polyvalues.proofs.polyvalue.Polyvalue.applying.Tie as tie
 
 abbrev Inv-loop : tie.InvT-loop
-Inv-loop assignment self n i₀ i = applying (drop i (inUse self)) assignment ≡ applying (inUse self) assignment
+Inv-loop self assignment n i₀ i = applying (drop i (inUse self)) assignment ≡ applying (inUse self) assignment
 
 abbrev μ-loop : tie.MeasureT-loop
-μ-loop assignment self n i₀ i = n - i
+μ-loop self assignment n i₀ i = n - i
 
 len-requires : tie.Need-len-requires Inv-loop μ-loop
 len-requires c κs = search needs
@@ -24,19 +24,16 @@ len-requires c κs = search needs
 loop-holds : tie.Need-loop-holds Inv-loop μ-loop
 loop-holds c = refl
 
-mul-row : tie.Need-mul-row Inv-loop μ-loop
-mul-row c = record { fits = omega (arith, c .before .before .len .ensures .1) }
-
-element-copy-out-row : tie.Need-element-copy-out-row Inv-loop μ-loop
-element-copy-out-row c = omega (arith, c .before .before .len .ensures .1)
+row-requires : tie.Need-row-requires Inv-loop μ-loop
+row-requires c κs = omega (arith, c .before .before .len .ensures .1)
 
 contains-requires : tie.Need-contains-requires Inv-loop μ-loop
 contains-requires c κs = search needs
 
 returns : tie.Need-returns Inv-loop μ-loop
 returns c =
-    let row = applying-more (c .before .before .before .before .before .before .args .t1) (c .before .before .before .before .before .before .args .assignment) (c .before .before .before .before .loop .i) (omega (arith, c .before .before .before .before .before .len .ensures .0)) in
-    ap (λ (b : Bool). cond b (getD (c .before .before .before .before .before .before .args .t1 .pairs) (c .before .before .before .before .loop .i) noPair) (applying (drop (suc (c .before .before .before .before .loop .i)) (inUse (c .before .before .before .before .before .before .args .t1))) (c .before .before .before .before .before .before .args .assignment))) (sym (sym (c .before .contains .ensures) ∙ c .if1 .taken))
+    let row = applying-more (c .before .before .before .before .before .before .args .self) (c .before .before .before .before .before .before .args .assignment) (c .before .before .before .before .loop .i) (c .before .before .row .ensures) (omega (arith, c .before .before .before .before .before .len .ensures .0)) in
+    ap (λ (b : Bool). cond b (c .before .before .row .result) (applying (drop (suc (c .before .before .before .before .loop .i)) (inUse (c .before .before .before .before .before .before .args .self))) (c .before .before .before .before .before .before .args .assignment))) (sym (sym (c .before .contains .ensures) ∙ c .if1 .taken))
     ∙ sym row ∙ c .before .before .before .before .loop .inv
 
 add-i : tie.Need-add-i Inv-loop μ-loop
@@ -47,13 +44,13 @@ loop-less c = omega arith
 
 loop-again : tie.Need-loop-again Inv-loop μ-loop
 loop-again c =
-    let row = applying-more (c .before .before .before .before .before .before .args .t1) (c .before .before .before .before .before .before .args .assignment) (c .before .before .before .before .loop .i) (omega (arith, c .before .before .before .before .before .len .ensures .0)) in
+    let row = applying-more (c .before .before .before .before .before .before .args .self) (c .before .before .before .before .before .before .args .assignment) (c .before .before .before .before .loop .i) (c .before .before .row .ensures) (omega (arith, c .before .before .before .before .before .len .ensures .0)) in
     rw add-one
-    (ap (λ (b : Bool). cond b (getD (c .before .before .before .before .before .before .args .t1 .pairs) (c .before .before .before .before .loop .i) noPair) (applying (drop (suc (c .before .before .before .before .loop .i)) (inUse (c .before .before .before .before .before .before .args .t1))) (c .before .before .before .before .before .before .args .assignment))) (sym (sym (c .before .contains .ensures) ∙ c .if1 .left))
+    (ap (λ (b : Bool). cond b (c .before .before .row .result) (applying (drop (suc (c .before .before .before .before .loop .i)) (inUse (c .before .before .before .before .before .before .args .self))) (c .before .before .before .before .before .before .args .assignment))) (sym (sym (c .before .contains .ensures) ∙ c .if1 .left))
     ∙ sym row ∙ c .before .before .before .before .loop .inv)
 
 returns-2 : tie.Need-returns-2 Inv-loop μ-loop
-returns-2 c = sym (applying-done (inUse (c .before .before .before .args .t1)) (c .before .before .before .args .assignment) (c .before .loop .i) (omega (arith, c .before .before .len .ensures .0))) ∙ c .before .loop .inv
+returns-2 c = sym (applying-done (inUse (c .before .before .before .args .self)) (c .before .before .before .args .assignment) (c .before .loop .i) (omega (arith, c .before .before .len .ensures .0))) ∙ c .before .loop .inv
 
 pub applying-spec : {M : Type 1} → statement M
 applying-spec =
@@ -63,8 +60,7 @@ applying-spec =
     μ-loop
     len-requires
     loop-holds
-    mul-row
-    element-copy-out-row
+    row-requires
     contains-requires
     returns
     add-i

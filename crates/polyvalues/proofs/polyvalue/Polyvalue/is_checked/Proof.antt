@@ -27,18 +27,15 @@ len-requires c κs = search needs
 loop-holds : tie.Need-loop-holds Inv-loop μ-loop
 loop-holds c = refl
 
-mul-row : tie.Need-mul-row Inv-loop μ-loop
-mul-row c = record { fits = omega (arith, c .before .before .len .ensures .1) }
-
-element-copy-out-row : tie.Need-element-copy-out-row Inv-loop μ-loop
-element-copy-out-row c = omega (arith, c .before .before .len .ensures .1)
+row-requires : tie.Need-row-requires Inv-loop μ-loop
+row-requires c κs = omega (arith, c .before .before .len .ensures .1)
 
 follows-requires : tie.Need-follows-requires Inv-loop μ-loop
 follows-requires c κs = search needs
 
 returns : tie.Need-returns Inv-loop μ-loop
 returns c =
-    let row = checked-more places (c .before .before .before .before .loop .last .value) (c .before .before .before .before .loop .covered .0) (c .before .before .before .before .before .before .args .t1) (c .before .before .before .before .loop .i) (omega (arith, c .before .before .before .before .before .len .ensures .0)) in
+    let row = checked-more places (c .before .before .before .before .loop .last .value) (c .before .before .before .before .loop .covered .0) (c .before .before .before .before .before .before .args .self) (c .before .before .before .before .loop .i) (c .before .before .row .ensures) (omega (arith, c .before .before .before .before .before .len .ensures .0)) in
     sym (sym (c .before .before .before .before .loop .inv) ∙ row ∙ rw (sym (c .before .follows .ensures) ∙ not-true _ (c .if1 .taken)))
 
 union-requires : tie.Need-union-requires Inv-loop μ-loop
@@ -53,14 +50,14 @@ loop-less c = omega arith
 loop-again : tie.Need-loop-again Inv-loop μ-loop
 loop-again c =
     rw add-one
-    (checked-turn places (c .before .before .before .before .before .loop .last .value) (c .before .before .before .before .before .loop .covered .0) (c .before .before .before .before .before .before .before .args .t1) (c .before .before .before .before .before .loop .i) (omega (arith, c .before .before .before .before .before .before .len .ensures .0)) (c .before .before .before .before .before .loop .inv)
+    (checked-turn places (c .before .before .before .before .before .loop .last .value) (c .before .before .before .before .before .loop .covered .0) (c .before .before .before .before .before .before .before .args .self) (c .before .before .before .before .before .loop .i) (c .before .before .before .row .ensures) (omega (arith, c .before .before .before .before .before .before .len .ensures .0)) (c .before .before .before .before .before .loop .inv)
     (sym (c .before .before .follows .ensures) ∙ not-false _ (c .before .if1 .left)) (c .union .ensures))
 
 same-requires : tie.Need-same-requires Inv-loop μ-loop
 same-requires c κs = search needs
 
 returns-2 : tie.Need-returns-2 Inv-loop μ-loop
-returns-2 c = c .same .ensures ∙ ap (eqb (c .before .before .loop .covered .0)) always-full ∙ sym (checked-done places _ _ (inUse (c .before .before .before .before .args .t1)) (c .before .before .loop .i) (omega (arith, c .before .before .before .len .ensures .0))) ∙ c .before .before .loop .inv
+returns-2 c = c .same .ensures ∙ ap (eqb (c .before .before .loop .covered .0)) always-full ∙ sym (checked-done places _ _ (inUse (c .before .before .before .before .args .self)) (c .before .before .loop .i) (omega (arith, c .before .before .before .len .ensures .0))) ∙ c .before .before .loop .inv
 
 pub is-checked-spec : {M : Type 1} → statement M
 is-checked-spec =
@@ -70,8 +67,7 @@ is-checked-spec =
     μ-loop
     len-requires
     loop-holds
-    mul-row
-    element-copy-out-row
+    row-requires
     follows-requires
     returns
     union-requires

@@ -8,26 +8,23 @@ use lib.ListN.{length, drop}
 use borrow.Author.Needs.{needs}
 use borrow.Author.Tests.{not-true, not-false}
 use Rattle.polyvalues.specs.Pairs.{blank}
-use Rattle.polyvalues.specs.Polyvalues.{each, room, tidy}
-use Rattle.polyvalues.proofs.Known.{Held, pairs-long}
+use Rattle.polyvalues.specs.Polyvalues.{each, room, rowsOf, tidy}
+use Rattle.polyvalues.proofs.Known.{Held, held-long}
 use Rattle.polyvalues.proofs.Checking.{blank-more, blank-done}
 use Rattle.polyvalues.proofs.polyvalue.Polyvalue.is_tidy.Statement.{statement}
 use Rattle.polyvalues.proofs.polyvalue.Polyvalue.is_tidy.Tie as tie
 
 abbrev Inv-loop : tie.InvT-loop
-Inv-loop self i₀ i = (length (self .pairs) ≡ room) × (each blank (drop i (self .pairs)) ≡ each blank (drop (self .count) (self .pairs)))
+Inv-loop self i₀ i = (length (rowsOf self) ≡ room) × (each blank (drop i (rowsOf self)) ≡ each blank (drop (self .count) (rowsOf self)))
 
 abbrev μ-loop : tie.MeasureT-loop
 μ-loop self i₀ i = room - i
 
 loop-holds : tie.Need-loop-holds Inv-loop μ-loop
-loop-holds c = let held : Held (c .args .t1) = record { values = _; own = c .good .0 } in (pairs-long held, refl)
+loop-holds c = let held : Held (c .args .self) = record { values = _; own = c .good .0 } in (held-long held, refl)
 
-mul-row : tie.Need-mul-row Inv-loop μ-loop
-mul-row c = search needs
-
-element-copy-out-row : tie.Need-element-copy-out-row Inv-loop μ-loop
-element-copy-out-row c = omega arith
+row-requires : tie.Need-row-requires Inv-loop μ-loop
+row-requires c κs = omega arith
 
 is-blank-requires : tie.Need-is-blank-requires Inv-loop μ-loop
 is-blank-requires c κs = search needs
@@ -35,8 +32,8 @@ is-blank-requires c κs = search needs
 returns : tie.Need-returns Inv-loop μ-loop
 unfolding tidy
 returns c =
-    let row = blank-more (c .before .before .before .before .before .args .t1) (c .before .before .before .before .loop .i) (omega (arith, c .before .before .before .before .loop .inv .0)) in
-    ap (λ (b : Bool). b && each blank (drop (suc (c .before .before .before .before .loop .i)) (c .before .before .before .before .before .args .t1 .pairs))) (sym (sym (c .before .is-blank .ensures) ∙ not-true _ (c .if1 .taken))) ∙ sym row ∙ c .before .before .before .before .loop .inv .1
+    let row = blank-more (c .before .before .before .before .before .args .self) (c .before .before .before .before .loop .i) (c .before .before .row .ensures) (omega (arith, c .before .before .before .before .loop .inv .0)) in
+    ap (λ (b : Bool). b && each blank (drop (suc (c .before .before .before .before .loop .i)) (rowsOf (c .before .before .before .before .before .args .self)))) (sym (sym (c .before .is-blank .ensures) ∙ not-true _ (c .if1 .taken))) ∙ sym row ∙ c .before .before .before .before .loop .inv .1
 
 add-i : tie.Need-add-i Inv-loop μ-loop
 add-i c = search needs
@@ -46,14 +43,14 @@ loop-less c = omega arith
 
 loop-again : tie.Need-loop-again Inv-loop μ-loop
 loop-again c =
-    let row = blank-more (c .before .before .before .before .before .args .t1) (c .before .before .before .before .loop .i) (omega (arith, c .before .before .before .before .loop .inv .0)) in (
+    let row = blank-more (c .before .before .before .before .before .args .self) (c .before .before .before .before .loop .i) (c .before .before .row .ensures) (omega (arith, c .before .before .before .before .loop .inv .0)) in (
       c .before .before .before .before .loop .inv .0,
-      rw add-one (ap (λ (b : Bool). b && each blank (drop (suc (c .before .before .before .before .loop .i)) (c .before .before .before .before .before .args .t1 .pairs))) (sym (sym (c .before .is-blank .ensures) ∙ not-false _ (c .if1 .left))) ∙ sym row ∙ c .before .before .before .before .loop .inv .1),
+      rw add-one (ap (λ (b : Bool). b && each blank (drop (suc (c .before .before .before .before .loop .i)) (rowsOf (c .before .before .before .before .before .args .self)))) (sym (sym (c .before .is-blank .ensures) ∙ not-false _ (c .if1 .left))) ∙ sym row ∙ c .before .before .before .before .loop .inv .1),
     )
 
 returns-2 : tie.Need-returns-2 Inv-loop μ-loop
 unfolding tidy
-returns-2 c = sym (blank-done (c .before .before .args .t1) (c .before .loop .i) (omega (arith, c .before .loop .inv .0))) ∙ c .before .loop .inv .1
+returns-2 c = sym (blank-done (c .before .before .args .self) (c .before .loop .i) (omega (arith, c .before .loop .inv .0))) ∙ c .before .loop .inv .1
 
 pub is-tidy-spec : {M : Type 1} → statement M
 is-tidy-spec =
@@ -62,8 +59,7 @@ is-tidy-spec =
     Inv-loop
     μ-loop
     loop-holds
-    mul-row
-    element-copy-out-row
+    row-requires
     is-blank-requires
     returns
     add-i

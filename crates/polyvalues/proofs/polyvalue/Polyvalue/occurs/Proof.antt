@@ -13,10 +13,10 @@ use Rattle.polyvalues.proofs.polyvalue.Polyvalue.occurs.Statement.{stat
 use Rattle.polyvalues.proofs.polyvalue.Polyvalue.occurs.Tie as tie
 
 abbrev Inv-loop : tie.InvT-loop
-Inv-loop pair from self n i₀ i = occurs (pair .value) (drop i (inUse self)) ≡ occurs (pair .value) (drop from (inUse self))
+Inv-loop self pair from n i₀ i = occurs (pair .value) (drop i (inUse self)) ≡ occurs (pair .value) (drop from (inUse self))
 
 abbrev μ-loop : tie.MeasureT-loop
-μ-loop pair from self n i₀ i = n - i
+μ-loop self pair from n i₀ i = n - i
 
 len-requires : tie.Need-len-requires Inv-loop μ-loop
 len-requires c κs = search needs
@@ -24,19 +24,16 @@ len-requires c κs = search needs
 loop-holds : tie.Need-loop-holds Inv-loop μ-loop
 loop-holds c = refl
 
-mul-row : tie.Need-mul-row Inv-loop μ-loop
-mul-row c = record { fits = omega (arith, c .before .before .len .ensures .1) }
-
-element-copy-out-row : tie.Need-element-copy-out-row Inv-loop μ-loop
-element-copy-out-row c = omega (arith, c .before .before .len .ensures .1)
+row-requires : tie.Need-row-requires Inv-loop μ-loop
+row-requires c κs = omega (arith, c .before .before .len .ensures .1)
 
 equal-requires : tie.Need-equal-requires Inv-loop μ-loop
 equal-requires c κs = search needs
 
 returns : tie.Need-returns Inv-loop μ-loop
 returns c =
-    let row = occurs-more (c .before .before .before .before .before .before .args .pair .value) (c .before .before .before .before .before .before .args .t1) (c .before .before .before .before .loop .i) (omega (arith, c .before .before .before .before .before .len .ensures .0)) in
-    ap (λ (b : Bool). b || occurs (c .before .before .before .before .before .before .args .pair .value) (drop (suc (c .before .before .before .before .loop .i)) (inUse (c .before .before .before .before .before .before .args .t1)))) (sym (sym (c .before .equal .ensures) ∙ c .if1 .taken)) ∙ sym row ∙ c .before .before .before .before .loop .inv
+    let row = occurs-more (c .before .before .before .before .before .before .args .pair .value) (c .before .before .before .before .before .before .args .self) (c .before .before .before .before .loop .i) (c .before .before .row .ensures) (omega (arith, c .before .before .before .before .before .len .ensures .0)) in
+    ap (λ (b : Bool). b || occurs (c .before .before .before .before .before .before .args .pair .value) (drop (suc (c .before .before .before .before .loop .i)) (inUse (c .before .before .before .before .before .before .args .self)))) (sym (sym (c .before .equal .ensures) ∙ c .if1 .taken)) ∙ sym row ∙ c .before .before .before .before .loop .inv
 
 add-i : tie.Need-add-i Inv-loop μ-loop
 add-i c = search needs
@@ -46,11 +43,11 @@ loop-less c = omega arith
 
 loop-again : tie.Need-loop-again Inv-loop μ-loop
 loop-again c =
-    let row = occurs-more (c .before .before .before .before .before .before .args .pair .value) (c .before .before .before .before .before .before .args .t1) (c .before .before .before .before .loop .i) (omega (arith, c .before .before .before .before .before .len .ensures .0)) in
-    rw add-one (ap (λ (b : Bool). b || occurs (c .before .before .before .before .before .before .args .pair .value) (drop (suc (c .before .before .before .before .loop .i)) (inUse (c .before .before .before .before .before .before .args .t1)))) (sym (sym (c .before .equal .ensures) ∙ c .if1 .left)) ∙ sym row ∙ c .before .before .before .before .loop .inv)
+    let row = occurs-more (c .before .before .before .before .before .before .args .pair .value) (c .before .before .before .before .before .before .args .self) (c .before .before .before .before .loop .i) (c .before .before .row .ensures) (omega (arith, c .before .before .before .before .before .len .ensures .0)) in
+    rw add-one (ap (λ (b : Bool). b || occurs (c .before .before .before .before .before .before .args .pair .value) (drop (suc (c .before .before .before .before .loop .i)) (inUse (c .before .before .before .before .before .before .args .self)))) (sym (sym (c .before .equal .ensures) ∙ c .if1 .left)) ∙ sym row ∙ c .before .before .before .before .loop .inv)
 
 returns-2 : tie.Need-returns-2 Inv-loop μ-loop
-returns-2 c = sym (occurs-done (c .before .before .before .args .pair .value) (inUse (c .before .before .before .args .t1)) (c .before .loop .i) (omega (arith, c .before .before .len .ensures .0))) ∙ c .before .loop .inv
+returns-2 c = sym (occurs-done (c .before .before .before .args .pair .value) (inUse (c .before .before .before .args .self)) (c .before .loop .i) (omega (arith, c .before .before .len .ensures .0))) ∙ c .before .loop .inv
 
 pub occurs-spec : {M : Type 1} → statement M
 occurs-spec =
@@ -60,8 +57,7 @@ occurs-spec =
     μ-loop
     len-requires
     loop-holds
-    mul-row
-    element-copy-out-row
+    row-requires
     equal-requires
     returns
     add-i

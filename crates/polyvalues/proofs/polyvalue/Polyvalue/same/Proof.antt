@@ -26,30 +26,24 @@ len-requires-2 : tie.Need-len-requires-2 Inv-loop μ-loop
 len-requires-2 c κs = search needs
 
 returns : tie.Need-returns Inv-loop μ-loop
-returns c = same-not (inUse (c .before .before .before .args .t1)) (inUse (c .before .before .before .args .t2)) (λ e. c .if1 .taken (c .before .before .len .ensures .0 ∙ e ∙ sym (c .before .len2 .ensures .0)))
+returns c = same-not (inUse (c .before .before .before .args .self)) (inUse (c .before .before .before .args .other)) (λ e. c .if1 .taken (c .before .before .len .ensures .0 ∙ e ∙ sym (c .before .len2 .ensures .0)))
 
 loop-holds : tie.Need-loop-holds Inv-loop μ-loop
 loop-holds c = (c .if1 .left ∙ c .before .len2 .ensures .0, refl)
 
-mul-row : tie.Need-mul-row Inv-loop μ-loop
-mul-row c = record { fits = omega (arith, c .before .before .before .before .len .ensures .1) }
+row-requires : tie.Need-row-requires Inv-loop μ-loop
+row-requires c κs = omega (arith, c .before .before .before .before .len .ensures .1)
 
-element-copy-out-row : tie.Need-element-copy-out-row Inv-loop μ-loop
-element-copy-out-row c = omega (arith, c .before .before .before .before .len .ensures .1)
-
-mul-twin : tie.Need-mul-twin Inv-loop μ-loop
-mul-twin c = record { fits = omega (arith, c .before .before .before .before .before .len .ensures .1) }
-
-element-copy-out-twin : tie.Need-element-copy-out-twin Inv-loop μ-loop
-element-copy-out-twin c = omega (arith, c .before .before .before .before .before .len .ensures .1)
+row-requires-2 : tie.Need-row-requires-2 Inv-loop μ-loop
+row-requires-2 c κs = omega (arith, c .before .before .before .before .before .len .ensures .1)
 
 same-requires : tie.Need-same-requires Inv-loop μ-loop
 same-requires c κs = search needs
 
 returns-2 : tie.Need-returns-2 Inv-loop μ-loop
 returns-2 c =
-    let row = same-more (c .before .before .before .before .before .before .before .before .before .args .t1) (c .before .before .before .before .before .before .before .before .before .args .t2) (c .before .before .before .before .before .loop .i) (omega (arith, c .before .before .before .before .before .before .before .before .len .ensures .0)) (omega (arith, c .before .before .before .before .before .loop .inv .0)) in
-    ap (λ (b : Bool). b && same (drop (suc (c .before .before .before .before .before .loop .i)) (inUse (c .before .before .before .before .before .before .before .before .before .args .t1))) (drop (suc (c .before .before .before .before .before .loop .i)) (inUse (c .before .before .before .before .before .before .before .before .before .args .t2)))) (sym (sym (c .before .same .ensures) ∙ not-true _ (c .if2 .taken)))
+    let row = same-more (c .before .before .before .before .before .before .before .before .before .args .self) (c .before .before .before .before .before .before .before .before .before .args .other) (c .before .before .before .before .before .loop .i) (c .before .before .before .row .ensures) (c .before .before .row2 .ensures) (omega (arith, c .before .before .before .before .before .before .before .before .len .ensures .0)) (omega (arith, c .before .before .before .before .before .loop .inv .0)) in
+    ap (λ (b : Bool). b && same (drop (suc (c .before .before .before .before .before .loop .i)) (inUse (c .before .before .before .before .before .before .before .before .before .args .self))) (drop (suc (c .before .before .before .before .before .loop .i)) (inUse (c .before .before .before .before .before .before .before .before .before .args .other)))) (sym (sym (c .before .same .ensures) ∙ not-true _ (c .if2 .taken)))
     ∙ sym row ∙ c .before .before .before .before .before .loop .inv .1
 
 add-i : tie.Need-add-i Inv-loop μ-loop
@@ -60,14 +54,14 @@ loop-less c = omega arith
 
 loop-again : tie.Need-loop-again Inv-loop μ-loop
 loop-again c =
-    let row = same-more (c .before .before .before .before .before .before .before .before .before .args .t1) (c .before .before .before .before .before .before .before .before .before .args .t2) (c .before .before .before .before .before .loop .i) (omega (arith, c .before .before .before .before .before .before .before .before .len .ensures .0)) (omega (arith, c .before .before .before .before .before .loop .inv .0)) in (
+    let row = same-more (c .before .before .before .before .before .before .before .before .before .args .self) (c .before .before .before .before .before .before .before .before .before .args .other) (c .before .before .before .before .before .loop .i) (c .before .before .before .row .ensures) (c .before .before .row2 .ensures) (omega (arith, c .before .before .before .before .before .before .before .before .len .ensures .0)) (omega (arith, c .before .before .before .before .before .loop .inv .0)) in (
       c .before .before .before .before .before .loop .inv .0,
-      rw add-one (ap (λ (b : Bool). b && same (drop (suc (c .before .before .before .before .before .loop .i)) (inUse (c .before .before .before .before .before .before .before .before .before .args .t1))) (drop (suc (c .before .before .before .before .before .loop .i)) (inUse (c .before .before .before .before .before .before .before .before .before .args .t2)))) (sym (sym (c .before .same .ensures) ∙ not-false _ (c .if2 .left)))
+      rw add-one (ap (λ (b : Bool). b && same (drop (suc (c .before .before .before .before .before .loop .i)) (inUse (c .before .before .before .before .before .before .before .before .before .args .self))) (drop (suc (c .before .before .before .before .before .loop .i)) (inUse (c .before .before .before .before .before .before .before .before .before .args .other)))) (sym (sym (c .before .same .ensures) ∙ not-false _ (c .if2 .left)))
           ∙ sym row ∙ c .before .before .before .before .before .loop .inv .1),
     )
 
 returns-3 : tie.Need-returns-3 Inv-loop μ-loop
-returns-3 c = sym (same-done (inUse (c .before .before .before .before .before .args .t1)) (inUse (c .before .before .before .before .before .args .t2)) (c .before .loop .i) (omega (arith, c .before .before .before .before .len .ensures .0)) (omega (arith, c .before .loop .inv .0))) ∙ c .before .loop .inv .1
+returns-3 c = sym (same-done (inUse (c .before .before .before .before .before .args .self)) (inUse (c .before .before .before .before .before .args .other)) (c .before .loop .i) (omega (arith, c .before .before .before .before .len .ensures .0)) (omega (arith, c .before .loop .inv .0))) ∙ c .before .loop .inv .1
 
 pub same-spec : {M : Type 1} → statement M
 same-spec =
@@ -79,10 +73,8 @@ same-spec =
     len-requires-2
     returns
     loop-holds
-    mul-row
-    element-copy-out-row
-    mul-twin
-    element-copy-out-twin
+    row-requires
+    row-requires-2
     same-requires
     returns-2
     add-i

@@ -7,19 +7,20 @@ use lib.ListN.{length, drop}
 use Rattle.conditions.specs.Places.{places}
 use Rattle.conditions.specs.Text.{decimal, numberAt}
 use Rattle.conditions.proofs.Laws.Text.{decimal-le}
+use Rattle.polyvalues.specs.declared.polyvalue.Pair.{Pair}
 use Rattle.polyvalues.specs.Polyvalues.{inUse}
-use Rattle.polyvalues.specs.Text.{lineText}
+use Rattle.polyvalues.specs.Text.{pairText, lineText}
 use Rattle.polyvalues.proofs.Texts.{rowsText, line-length, rest-length, rows-done-length}
 use Rattle.polyvalues.proofs.polyvalue.Polyvalue.text_len.Statement.{statement}
 use Rattle.polyvalues.proofs.polyvalue.Polyvalue.text_len.Tie as tie
 
 abbrev Inv-loop : tie.InvT-loop
-Inv-loop numbers self n len₀ i₀ len i =
+Inv-loop self numbers n len₀ i₀ len i =
     (i ≤ n) × (len + length (rowsText places (numberAt numbers) (drop i (inUse self))) ≡ length (lineText places (numberAt numbers) (inUse self)))
     × (len ≤ 1 + i * (8 + (8 * places + 2) * 3 ^ places))
 
 abbrev μ-loop : tie.MeasureT-loop
-μ-loop numbers self n len₀ i₀ len i = n - i
+μ-loop self numbers n len₀ i₀ len i = n - i
 
 len-requires : tie.Need-len-requires Inv-loop μ-loop
 len-requires c κs = search needs
@@ -30,15 +31,12 @@ decimal-len-requires c κs = search needs
 loop-holds : tie.Need-loop-holds Inv-loop μ-loop
 loop-holds c = (
   omega arith,
-  omega (arith, line-length places (numberAt (c .before .before .args .numbers)) (inUse (c .before .before .args .t1)), c .decimal-len .ensures .0, ap (λ (k : ℕ). length (decimal k)) (c .before .len .ensures .0)),
+  omega (arith, line-length places (numberAt (c .before .before .args .numbers)) (inUse (c .before .before .args .self)), c .decimal-len .ensures .0, ap (λ (k : ℕ). length (decimal k)) (c .before .len .ensures .0)),
   omega (arith, c .decimal-len .ensures .0, decimal-le 0 (c .before .len .result) (omega (arith, c .before .len .ensures .1))),
 )
 
-mul-row : tie.Need-mul-row Inv-loop μ-loop
-mul-row c = record { fits = omega (arith, c .before .before .before .len .ensures .1) }
-
-element-copy-out-row : tie.Need-element-copy-out-row Inv-loop μ-loop
-element-copy-out-row c = omega (arith, c .before .before .before .len .ensures .1)
+row-requires : tie.Need-row-requires Inv-loop μ-loop
+row-requires c κs = omega (arith, c .before .before .before .len .ensures .1)
 
 pair-len-requires : tie.Need-pair-len-requires Inv-loop μ-loop
 pair-len-requires c κs = search needs
@@ -58,13 +56,13 @@ loop-less c = omega arith
 loop-again : tie.Need-loop-again Inv-loop μ-loop
 loop-again c = (
   omega arith,
-  omega (arith, c .before .before .before .loop .inv .1, rest-length places (numberAt (c .before .before .before .before .before .before .args .numbers)) (c .before .before .before .before .before .before .args .t1) (c .before .before .before .loop .i) (omega (arith, c .before .before .before .before .before .len .ensures .0)), c .pair-len .ensures .0),
+  omega (arith, c .before .before .before .loop .inv .1, rest-length places (numberAt (c .before .before .before .before .before .before .args .numbers)) (c .before .before .before .before .before .before .args .self) (c .before .before .before .loop .i) (omega (arith, c .before .before .before .before .before .len .ensures .0)), c .pair-len .ensures .0, ap (λ (p : Pair). length (pairText places (numberAt (c .before .before .before .before .before .before .args .numbers)) p)) (c .before .row .ensures)),
   omega (arith, c .before .before .before .loop .inv .2, c .pair-len .ensures .1),
 )
 
 returns : tie.Need-returns Inv-loop μ-loop
 returns c = (
-  omega (arith, c .before .loop .inv .1, rows-done-length places (numberAt (c .before .before .before .before .args .numbers)) (inUse (c .before .before .before .before .args .t1)) (c .before .loop .i) (omega (arith, c .before .before .before .len .ensures .0))),
+  omega (arith, c .before .loop .inv .1, rows-done-length places (numberAt (c .before .before .before .before .args .numbers)) (inUse (c .before .before .before .before .args .self)) (c .before .loop .i) (omega (arith, c .before .before .before .len .ensures .0))),
   omega (arith, c .before .loop .inv .2, c .before .before .before .len .ensures .1),
 )
 
@@ -77,8 +75,7 @@ text-len-spec =
     len-requires
     decimal-len-requires
     loop-holds
-    mul-row
-    element-copy-out-row
+    row-requires
     pair-len-requires
     add-len
     add-len-2

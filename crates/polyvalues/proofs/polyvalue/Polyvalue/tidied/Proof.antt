@@ -4,35 +4,48 @@ use mathlib.Core.List.{List, _++_}
 use Prim.Native.Nat.{_≤_, _-_}
 use native.Mathlib.Numerals.{add-one}
 use native.Mathlib.Omega.{arith}
-use lib.ListN.{length, take, drop, set, replicate}
+use lib.IntN.{pos}
+use lib.ListN.{length, take, drop, set, replicate, length-set}
 use borrow.Author.Needs.{needs}
+use Rattle.conditions.specs.Conditions.{ofNumber}
 use Rattle.polyvalues.specs.declared.polyvalue.Pair.{Pair}
 use Rattle.polyvalues.specs.Pairs.{noPair}
-use Rattle.polyvalues.specs.Polyvalues.{room}
-use Rattle.polyvalues.proofs.Known.{Held, pairs-long}
+use Rattle.polyvalues.specs.Polyvalues.{room, paired, rowsOf}
+use Rattle.polyvalues.proofs.Laws.Paired.{AllRows, paired-set}
+use Rattle.polyvalues.proofs.Known.{Held, all-rows, held-long}
 use Rattle.polyvalues.proofs.Inserting.{zeros-none, zeros-more, zeros-all}
 use Rattle.polyvalues.proofs.polyvalue.Polyvalue.tidied.Statement.{statement}
 use Rattle.polyvalues.proofs.polyvalue.Polyvalue.tidied.Tie as tie
 
 abbrev Inv-loop : tie.InvT-loop
-Inv-loop n pairs₀ blank i₀ pairs i = (n ≤ i) × (i ≤ room) × (length pairs₀ ≡ room) × (pairs ≡ take n pairs₀ ++ replicate (i - n) noPair ++ drop i pairs₀)
+Inv-loop n values₀ conditions₀ i₀ values conditions i =
+    (n ≤ i) × (i ≤ room) × (length (paired values₀ conditions₀) ≡ room) × (length values ≡ length conditions)
+    × (paired values conditions ≡ take n (paired values₀ conditions₀) ++ replicate (i - n) noPair ++ drop i (paired values₀ conditions₀))
 
 abbrev μ-loop : tie.MeasureT-loop
-μ-loop n pairs₀ blank i₀ pairs i = room - i
+μ-loop n values₀ conditions₀ i₀ values conditions i = room - i
 
 len-requires : tie.Need-len-requires Inv-loop μ-loop
 len-requires c κs = search needs
 
 loop-holds : tie.Need-loop-holds Inv-loop μ-loop
 loop-holds c =
-    let held : Held (c .before .before .args .self) = record { values = _; own = c .before .before .good .0 } in
-    (omega arith, c .before .len .ensures .1, pairs-long held, sym (zeros-none (c .before .len .result) (c .before .before .args .self .pairs)))
+    let q = c .before .before .before .args .self in
+    let held : Held q = record { values = _; own = c .before .before .before .good .0 } in
+    let all : AllRows q = all-rows held in
+    (omega arith, c .before .before .len .ensures .1, held-long held, all .values ∙ sym (all .conditions), sym (zeros-none (c .before .before .len .result) (rowsOf q)))
 
-mul-pairs : tie.Need-mul-pairs Inv-loop μ-loop
-mul-pairs c = search needs
+mul-values : tie.Need-mul-values Inv-loop μ-loop
+mul-values c = search needs
 
-array-set-from-pairs : tie.Need-array-set-from-pairs Inv-loop μ-loop
-array-set-from-pairs c = omega arith
+array-set-of-values : tie.Need-array-set-of-values Inv-loop μ-loop
+array-set-of-values c = omega arith
+
+mul-conditions : tie.Need-mul-conditions Inv-loop μ-loop
+mul-conditions c = search needs
+
+array-set-from-conditions : tie.Need-array-set-from-conditions Inv-loop μ-loop
+array-set-from-conditions c = omega arith
 
 add-i : tie.Need-add-i Inv-loop μ-loop
 add-i c = search needs
@@ -46,14 +59,16 @@ loop-again c =
       omega arith,
       omega arith,
       at-loop .inv .2,
-      ap (λ (l : List Pair). set l (at-loop .i) noPair) (at-loop .inv .3) ∙ rw add-one (zeros-more (c .before .before .before .len .result) (at-loop .i) (c .before .before .before .before .args .self .pairs) (at-loop .inv .0) (omega (arith, at-loop .inv .2))),
+      length-set (at-loop .values) (at-loop .i) (pos 0) ∙ at-loop .inv .3 ∙ sym (length-set (at-loop .conditions) (at-loop .i) (ofNumber 0)),
+      paired-set (at-loop .values) (at-loop .conditions) (at-loop .i) (pos 0) (ofNumber 0) ∙ ap (λ (l : List Pair). set l (at-loop .i) noPair) (at-loop .inv .4)
+          ∙ rw add-one (zeros-more (c .before .before .before .before .len .result) (at-loop .i) (rowsOf (c .before .before .before .before .before .args .self)) (at-loop .inv .0) (omega (arith, at-loop .inv .2))),
     )
 
 returns : tie.Need-returns Inv-loop μ-loop
 returns c =
     let at-loop = c .before .loop in
     let last : at-loop .i ≡ room = omega (arith, at-loop .inv .1) in
-    zeros-all (c .before .before .before .before .args .self) (c .before .before .before .len .result) (at-loop .inv .2) (c .before .before .before .len .ensures .0) (c .before .before .before .len .ensures .1) (rw last at (at-loop .inv .3))
+    zeros-all (c .before .before .before .before .before .args .self) (c .before .before .before .before .len .result) (at-loop .inv .2) (c .before .before .before .before .len .ensures .0) (c .before .before .before .before .len .ensures .1) (at-loop .inv .3) (rw last at (at-loop .inv .4))
 
 pub tidied-spec : {M : Type 1} → statement M
 tidied-spec =
@@ -63,8 +78,10 @@ tidied-spec =
     μ-loop
     len-requires
     loop-holds
-    mul-pairs
-    array-set-from-pairs
+    mul-values
+    array-set-of-values
+    mul-conditions
+    array-set-from-conditions
     add-i
     loop-less
     loop-again
