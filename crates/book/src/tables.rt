@@ -34,7 +34,7 @@ pub const DISTRICTS: usize = 8;
 pub const ITEMS: usize = 32;
 
 // All of a book but its items, and the set of the places that these depend on: what the tests of a
-// place and forgetting ask of a book, without its 9 KB.
+// place and forgetting ask of a book, without the items themselves.
 pub struct Tables {
     pub last: TransactionNumber,
     pub districts: usize,
