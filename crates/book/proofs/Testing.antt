@@ -1,16 +1,19 @@
 -- The tests of soundness, as the code makes them.
 use mathlib.Core.Path.{_≡_, refl, sym, ap, ap₂, _∙_}
 use mathlib.Core.Bool.{Bool, true, false, not, _&&_, cond, and-false}
-use mathlib.Core.List.{List}
+use mathlib.Core.List.{List, [], _∷_}
 use Prim.Native.Nat.{ℕ, _≤_, _<_}
 use native.Mathlib.Omega.{arith}
 use borrow.Author.Tests.{le-leb, lt-ltb, le-ltb, leb-true, not-false}
 use lib.Dec.{eqb, leb, ltb}
-use lib.ListN.{getD}
+use lib.IntN.{pos}
+use lib.ListN.{length, getD, replicate}
 use lib.Seq.{take-all}
+use Rattle.polyvalues.specs.declared.polyvalue.Pair.{Pair}
 use Rattle.polyvalues.specs.declared.polyvalue.Polyvalue.{Polyvalue}
+use Rattle.polyvalues.specs.Pairs.{noPair, assignments, blank}
 use Rattle.polyvalues.specs.Values.{equal}
-use Rattle.polyvalues.specs.Polyvalues.{room, rowsOf, inUse}
+use Rattle.polyvalues.specs.Polyvalues.{each, room, rowsOf, inUse, packed}
 use Rattle.polyvalues.specs.Polyvalues.{sound as soundPolyvalue}
 use Rattle.polyvalues.specs.Operations.{same, together}
 use Rattle.polyvalues.proofs.Laws.Packed.{sound-well-formed}
@@ -42,6 +45,19 @@ whole-same {q} {r} h l =
     let other : AllRows r = all-rows l in
     ap₂ same (take-all room (rowsOf q) (omega (arith, rows-long all))) (take-all room (rowsOf r) (omega (arith, rows-long other)))
     ∙ same-paired (q .values) (r .values) (q .conditions) (r .conditions) (all .values ∙ sym (all .conditions)) (other .values ∙ sym (other .conditions))
+
+-- rows that are all blank are rows of zeros
+blank-same : (ps : List Pair) → each blank ps ≡ same ps (replicate (length ps) noPair)
+blank-same [] = refl
+blank-same (p ∷ ps) = ap (λ (b : Bool). equal (p .value) (pos 0) && eqb (assignments p) 0 && b) (blank-same ps)
+
+pub nothing-same : {q : Polyvalue} → Held q → (eqb (q .count) 0 && each blank (rowsOf q)) ≡ samePolyvalue q (packed [])
+unfolding samePolyvalue packed
+nothing-same {q} h =
+    let all : AllRows q = all-rows h in
+    ap (λ (b : Bool). eqb (q .count) 0 && b)
+    (blank-same (rowsOf q) ∙ ap (λ (n : ℕ). same (rowsOf q) (replicate n noPair)) (rows-long all)
+    ∙ same-paired (q .values) (packed [] .values) (q .conditions) (packed [] .conditions) (all .values ∙ sym (all .conditions)) refl)
 
 -- ---- the place of a transaction
 

@@ -1,13 +1,14 @@
 // Whether a book that is handed in is sound: the paragraph of document 01, row by row.
 ghost use mathlib.Core.Path.{_≡_};
 ghost use mathlib.Core.Bool.{not, _&&_, cond};
+ghost use mathlib.Core.List.{[]};
 ghost use Prim.Native.Nat.{ℕ, _<_, _≤_, _^_};
 ghost use lib.Dec.{eqb, leb, ltb};
 ghost use lib.ListN.{getD};
 ghost use Rattle.conditions.specs.Below.{all};
 ghost use Rattle.conditions.specs.Sets.{member, setOf};
 ghost use Rattle.conditions.specs.Places.{places as Places·places};
-ghost use Rattle.polyvalues.specs.Polyvalues.{room, inUse};
+ghost use Rattle.polyvalues.specs.Polyvalues.{room, inUse, packed};
 ghost use Rattle.polyvalues.specs.Polyvalues.{sound as soundPolyvalue};
 ghost use Rattle.polyvalues.specs.Operations.{together};
 ghost use Rattle.book.specs.declared.Book.{Book};
@@ -40,7 +41,6 @@ use crate::Book;
 use crate::Item;
 use crate::Open;
 use crate::Record;
-use crate::maker::zero_item;
 use crate::sets::has;
 use crate::tables::DISTRICTS;
 use crate::tables::ITEMS;
@@ -105,17 +105,26 @@ fn same_polyvalue(q: Polyvalue, other: Polyvalue) -> bool
     rows.same(others)
 }
 
-// Whether two items are.
-fn same_item(x: Item, y: Item) -> bool
-    ensures { λ r. ⌜ r ≡ sameItem x y ⌝ }
+// Whether a polyvalue holds zeros.
+fn zero_polyvalue(q: Polyvalue) -> bool
+    ensures { λ r. ⌜ r ≡ samePolyvalue q (packed []) ⌝ }
 {
-    if x.district != y.district {
+    q.is_nothing()
+}
+
+// Whether an item does.
+fn zero_row(x: Item) -> bool
+    ensures { λ r. ⌜ r ≡ sameItem x noItem ⌝ }
+{
+    if x.district != 0 {
         return false;
     }
-    if !same_polyvalue(x.held, y.held) {
+    let held = x.held;
+    if !zero_polyvalue(held) {
         return false;
     }
-    same_polyvalue(x.pending, y.pending)
+    let pending = x.pending;
+    zero_polyvalue(pending)
 }
 
 // Whether the open transaction touches the busy district: a waiting one is ready, a computing one in
@@ -397,7 +406,7 @@ impl Book {
         }
         while i < ITEMS {
             let x = self.items[i];
-            if !same_item(x, zero_item()) {
+            if !zero_row(x) {
                 return false;
             }
             i += 1;

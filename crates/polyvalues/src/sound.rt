@@ -1,12 +1,14 @@
 // Whether a polyvalue that is handed in is one: the paragraph of document 01, in one pass over its
 // rows.
 ghost use mathlib.Core.Path.{_≡_};
+ghost use mathlib.Core.Bool.{_&&_};
 ghost use Prim.Native.Nat.{_≤_};
+ghost use lib.Dec.{eqb};
 ghost use Rattle.conditions.specs.Places.{places};
 ghost use Rattle.conditions.specs.Conditions.{number};
 ghost use Rattle.polyvalues.specs.Values.{inRange};
 ghost use Rattle.polyvalues.specs.Pairs.{blank};
-ghost use Rattle.polyvalues.specs.Polyvalues.{room, inUse, tidy, sound};
+ghost use Rattle.polyvalues.specs.Polyvalues.{each, room, rowsOf, inUse, tidy, sound};
 ghost use Rattle.polyvalues.specs.Checked.{rowFits, checkedFrom, belowAll};
 use crate::polyvalue::PAIRS;
 use crate::polyvalue::Pair;
@@ -65,6 +67,21 @@ impl Polyvalue {
             i += 1;
         }
         true
+    }
+
+    // Whether it is the polyvalue of no pairs, all its rows zero.
+    pub fn is_nothing(self) -> bool
+        ensures { λ r. ⌜ r ≡ (eqb (self .count) 0 && each blank (rowsOf self)) ⌝ }
+    {
+        let mut none = self.count == 0;
+        let mut i: usize = 0;
+        while i < PAIRS {
+            let row = self.row(i);
+            let blank = row.is_blank();
+            none = none & blank;
+            i += 1;
+        }
+        none
     }
 
     // Whether each row in use may follow the one before it, and together they cover all.

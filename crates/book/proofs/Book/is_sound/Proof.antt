@@ -1,5 +1,5 @@
 -- The first loop's invariant: the items before i are sound, and these places are needed. The second's: the rows before i are sound.
-use mathlib.Core.Path.{_≡_, refl, sym, ap, _∙_}
+use mathlib.Core.Path.{_≡_, refl, sym, _∙_}
 use mathlib.Core.Bool.{true, and-false}
 use Prim.Native.Nat.{_≤_, _-_}
 use native.Mathlib.Numerals.{add-one}
@@ -10,7 +10,7 @@ use Rattle.conditions.specs.Below.{all}
 use Rattle.conditions.specs.Places.{places as width}
 use Rattle.conditions.proofs.Laws.Below.{all-more, all-fails}
 use Rattle.book.specs.Book.{mostItems}
-use Rattle.book.specs.SoundTest.{sameItem, soundItem, sound}
+use Rattle.book.specs.SoundTest.{soundItem, sound}
 use Rattle.book.specs.Tables.{TablesOf}
 use Rattle.book.proofs.Needed.{NeededBy, none-needed, needed-more, all-needed}
 use Rattle.book.proofs.Testing.{few-rows, number-last, item-row, item-past}
@@ -79,16 +79,13 @@ mul-x-2 c = search needs
 element-copy-out-x-2 : tie.Need-element-copy-out-x-2 Inv-loop μ-loop Inv-loop2 μ-loop2
 element-copy-out-x-2 c = omega arith
 
-zero-item-requires : tie.Need-zero-item-requires Inv-loop μ-loop Inv-loop2 μ-loop2
-zero-item-requires c κs = search needs
-
-same-item-requires : tie.Need-same-item-requires Inv-loop μ-loop Inv-loop2 μ-loop2
-same-item-requires c κs = search needs
+zero-row-requires : tie.Need-zero-row-requires Inv-loop μ-loop Inv-loop2 μ-loop2
+zero-row-requires c κs = search needs
 
 returns-3 : tie.Need-returns-3 Inv-loop μ-loop Inv-loop2 μ-loop2
 unfolding sound soundItem
 returns-3 c =
-    rw (all-fails mostItems (soundItem width (c .before .before .before .before .before .before .before .before .before .before .before .before .args .t1)) (c .before .before .before .before .before .loop2 .i) (omega arith) (item-past width (c .before .before .before .before .before .before .before .before .before .before .before .before .args .t1) (c .before .before .before .before .before .loop2 .inv .0) ∙ sym (c .before .same-item .ensures ∙ ap (sameItem _) (c .before .before .zero-item .ensures)) ∙ not-true _ (c .if3 .taken)), and-false)
+    rw (all-fails mostItems (soundItem width (c .before .before .before .before .before .before .before .before .before .before .before .args .t1)) (c .before .before .before .before .loop2 .i) (omega arith) (item-past width (c .before .before .before .before .before .before .before .before .before .before .before .args .t1) (c .before .before .before .before .loop2 .inv .0) ∙ sym (c .before .zero-row .ensures) ∙ not-true _ (c .if3 .taken)), and-false)
 
 add-i-2 : tie.Need-add-i-2 Inv-loop μ-loop Inv-loop2 μ-loop2
 add-i-2 c = search needs
@@ -99,9 +96,9 @@ loop2-less c = omega arith
 loop2-again : tie.Need-loop2-again Inv-loop μ-loop Inv-loop2 μ-loop2
 unfolding soundItem
 loop2-again c = (
-  omega (arith, c .before .before .before .before .before .loop2 .inv .0),
+  omega (arith, c .before .before .before .before .loop2 .inv .0),
   omega arith,
-  rw add-one (all-more _ _ (c .before .before .before .before .before .loop2 .inv .2) (item-past width (c .before .before .before .before .before .before .before .before .before .before .before .before .args .t1) (c .before .before .before .before .before .loop2 .inv .0) ∙ sym (c .before .same-item .ensures ∙ ap (sameItem _) (c .before .before .zero-item .ensures)) ∙ not-false _ (c .if3 .left))),
+  rw add-one (all-more _ _ (c .before .before .before .before .loop2 .inv .2) (item-past width (c .before .before .before .before .before .before .before .before .before .before .before .args .t1) (c .before .before .before .before .loop2 .inv .0) ∙ sym (c .before .zero-row .ensures) ∙ not-false _ (c .if3 .left))),
 )
 
 sound-districts-requires : tie.Need-sound-districts-requires Inv-loop μ-loop Inv-loop2 μ-loop2
@@ -149,8 +146,7 @@ is-sound-spec =
     loop2-holds
     mul-x-2
     element-copy-out-x-2
-    zero-item-requires
-    same-item-requires
+    zero-row-requires
     returns-3
     add-i-2
     loop2-less
