@@ -8,7 +8,7 @@ use Rattle.sheet.specs.declared.events.Event.the-variants.{Begin, Ready, GiveUp
 use Rattle.sheet.specs.Open.{openSheet}
 use Rattle.sheet.specs.Play.{ofShow, outcome}
 use Rattle.sheet.proofs.Laws.Open.{sheet-opens}
-use Rattle.sheet.proofs.Laws.Walk.{by-calls}
+use Rattle.sheet.proofs.Laws.Walk.{sheet-found, by-calls}
 use Rattle.demands.specs.Calls.{History, nothing, _then_, afterCalls}
 use Rattle.demands.specs.Playing.{callOf, IsCall, bookPlayed, thenEvents, historyOf}
 use Rattle.demands.specs.Demands.{OnSheets, OnProgram}
@@ -22,13 +22,13 @@ on-sheets w s e =
 -- an event is the call that it asks for
 is-call : (w : ℕ) (b : Book) (s : List ℕ) (e : Event) → IsCall w b s e
 unfolding outcome ofShow
-is-call w b s (Begin from to) = record { answer = refl; book = refl }
-is-call w b s (Ready n d) = record { answer = refl; book = refl }
-is-call w b s (GiveUp n d) = record { answer = refl; book = refl }
-is-call w b s (Complete n) = record { answer = refl; book = refl }
-is-call w b s (Abort n) = record { answer = refl; book = refl }
-is-call w b s (Hear n d) = record { answer = refl; book = refl }
-is-call w b s (Show i) = record { answer = refl; book = refl }
+is-call w b s (Begin from to) = record { answer = refl; more = refl; book = refl }
+is-call w b s (Ready n d) = record { answer = refl; more = refl; book = refl }
+is-call w b s (GiveUp n d) = record { answer = refl; more = refl; book = refl }
+is-call w b s (Complete n) = record { answer = refl; more = refl; book = refl }
+is-call w b s (Abort n) = record { answer = refl; more = refl; book = refl }
+is-call w b s (Hear n d) = record { answer = refl; more = refl; book = refl }
+is-call w b s (Show i) = record { answer = refl; more = refl; book = refl }
 
 -- the book after events is that of their calls
 played-calls : (w : ℕ) (b : Book) (s : List ℕ) (h : History) (es : List Event) → bookPlayed w (afterCalls w b h) s es ≡ afterCalls w b (thenEvents s h es)
@@ -41,5 +41,5 @@ on-program w = record {
   calls = is-call w;
   books = λ s e.
       let o = on-sheets w s e in
-      (o .0, o .1, o .2, o .3, λ es. rw (played-calls w (openSheet w s .book) s nothing es) (o .4 (historyOf s es)));
+      (o .0, o .1, o .2, o .3, sheet-found s (o .3), λ es. rw (played-calls w (openSheet w s .book) s nothing es) (o .4 (historyOf s es)));
 }

@@ -50,7 +50,7 @@ use Rattle.sheet.specs.Readers.{wrong, right}
 use Rattle.sheet.specs.Sections.{Sheet, sheet}
 use Rattle.sheet.specs.Open.{mostBytes, openSheet}
 use Rattle.sheet.specs.Output.{output}
-use Rattle.sheet.specs.Program.{byCalls}
+use Rattle.sheet.specs.Program.{byCalls, AsRead}
 use Rattle.demands.specs.Calls.{Call, beginsWith, readies, givesUp, completes, aborts, hears, shows, answerTo, numberGiven, bookAfter, History, afterCalls}
 use Rattle.demands.specs.Past.{Said, pastOf, asksBegin, asksComplete, asksAbort, began, Guess, serial}
 use Rattle.demands.specs.Playing.{IsCall, bookPlayed, historyOf}
@@ -289,9 +289,10 @@ pub record OnProgram (w : ℕ) : Type 0 where
   pub prints : (s : List ℕ) → byCalls w s ≡ output w s
   -- each event that it plays is a call: on any book, and whatever stands in the sheet
   pub calls : (b : Book) (s : List ℕ) (e : Event) → IsCall w b s e
-  -- so the book after any events of a sheet that is accepted, as far as they were played, is the book after these calls
+  -- so it holds of the book after any events, the first few of an accepted sheet's own among them: these are what event_at finds from the first on, as many as the sheet counts
   pub books : (s : List ℕ) → accepted (openSheet w s .answer) ≡ true
       → (x : Sheet) × (at : ℕ) × (rest : List ℕ) × (sheet s ≡ right x at rest)
+      × AsRead s (x .events)
       × ((es : List Event) → Serially w (x .items) (bookPlayed w (openSheet w s .book) s es) (pastOf w (openSheet w s .book) (historyOf s es)))
 
 -- ==== "Marked examples (prove these ten)"
