@@ -5,6 +5,7 @@ pub mod Same
 pub mod Programs
 pub mod Touched
 pub mod Steps
+pub mod But
 pub mod Sound
 pub mod Forget
 pub mod Open
@@ -14,7 +15,6 @@ pub mod Alternatives
 pub mod Shaped
 pub mod Values
 pub mod Room
-pub mod But
 pub mod Forgetting
 pub mod Needing
 pub mod Including

@@ -12,12 +12,12 @@ use Rattle.polyvalues.specs.declared.value.Added.the-variants.{Value, Declined}
 use Rattle.polyvalues.specs.Values.{inRange, below, sum, sumAs}
 use Rattle.book.specs.declared.Step.{Step}
 use Rattle.book.specs.declared.program.Program.{Program}
-use Rattle.book.specs.declared.program.State.{State}
-use Rattle.book.specs.declared.program.Stepped.{Stepped}
+use Rattle.book.specs.declared.state.State.{State}
+use Rattle.book.specs.declared.state.Stepped.{Stepped}
 use Rattle.book.specs.Book.{mostItems}
 use Rattle.book.specs.Programs.{numbered, takes, declines, after, afterAll, declinedFrom, declined, run}
 use Rattle.book.specs.Begin.{outside}
-use Rattle.book.specs.States.{noStep, stepsOf, stateOf, rowsOf, added, stepped, ran}
+use Rattle.book.specs.States.{noStep, stepsOf, stateOf, stateRows, added, stepped, ran}
 use Rattle.book.proofs.Laws.Programs.{after-other}
 use Rattle.book.proofs.States.{rows-long, rows-back, state-row, state-past, state-rows}
 use Rattle.book.proofs.Laws.Touched.{names-past}
@@ -41,21 +41,21 @@ module _ (x : Step) (s : State) where
   pub stepped-need : length (s .values) ≡ mostItems → x .kind ≡ 1 → {b : Bool} → b ≡ below (stateOf s (x .item)) (x .operand) → record { declines = b; state = s } ≡ stepped x (stateOf s)
   unfolding stepped declines after
   stepped-need l e d =
-      let same : s ≡ rowsOf (cond (below (stateOf s (x .item)) (x .operand)) (stateOf s) (stateOf s)) = sym (ap rowsOf (cond-same (below (stateOf s (x .item)) (x .operand)) (stateOf s)) ∙ rows-back s l) in
+      let same : s ≡ stateRows (cond (below (stateOf s (x .item)) (x .operand)) (stateOf s) (stateOf s)) = sym (ap stateRows (cond-same (below (stateOf s (x .item)) (x .operand)) (stateOf s)) ∙ rows-back s l) in
       let need : record { declines = _; state = s } ≡ stepped (record { kind = 1; item = x .item; operand = x .operand }) (stateOf s) = λ k. record { declines = d k; state = same k } in
       need ∙ ap (λ (y : Step). stepped y (stateOf s)) (of-kind 1 x e)
 
   pub stepped-add : x .kind ≡ 2 → added (stateOf s) (x .item) (stateOf s (x .item) +ℤ x .operand) ≡ stepped x (stateOf s)
   unfolding added stepped declines after
   stepped-add e =
-      ap (λ (u : ℕ → ℤ). record { declines = not (inRange (stateOf s (x .item) +ℤ x .operand)); state = rowsOf u }) (cond-not (inRange (stateOf s (x .item) +ℤ x .operand)) _ (stateOf s))
+      ap (λ (u : ℕ → ℤ). record { declines = not (inRange (stateOf s (x .item) +ℤ x .operand)); state = stateRows u }) (cond-not (inRange (stateOf s (x .item) +ℤ x .operand)) _ (stateOf s))
       ∙ ap (λ (y : Step). stepped y (stateOf s)) (of-kind 2 x e)
 
-  pub stepped-set : x .kind ≡ 3 → {t : State} → t ≡ rowsOf (takes (stateOf s) (x .item) (x .operand)) → record { declines = false; state = t } ≡ stepped x (stateOf s)
+  pub stepped-set : x .kind ≡ 3 → {t : State} → t ≡ stateRows (takes (stateOf s) (x .item) (x .operand)) → record { declines = false; state = t } ≡ stepped x (stateOf s)
   unfolding stepped declines after
   stepped-set e d = ap (λ (u : State). record { declines = false; state = u }) d ∙ ap (λ (y : Step). stepped y (stateOf s)) (of-kind 3 x e)
 
-  pub stepped-copy : x .kind ≡ 4 → {t : State} → t ≡ rowsOf (takes (stateOf s) (x .item) (stateOf s (numbered (x .operand)))) → record { declines = false; state = t } ≡ stepped x (stateOf s)
+  pub stepped-copy : x .kind ≡ 4 → {t : State} → t ≡ stateRows (takes (stateOf s) (x .item) (stateOf s (numbered (x .operand)))) → record { declines = false; state = t } ≡ stepped x (stateOf s)
   unfolding stepped declines after
   stepped-copy e d = ap (λ (u : State). record { declines = false; state = u }) d ∙ ap (λ (y : Step). stepped y (stateOf s)) (of-kind 4 x e)
 
@@ -84,7 +84,7 @@ not-summed a b e =
     (λ t. t)
 
 module _ (s : State) (i : ℕ) (z : ℤ) where
-  pub added-yes : inRange z ≡ true → {t : State} → t ≡ rowsOf (takes (stateOf s) i z) → record { declines = false; state = t } ≡ added (stateOf s) i z
+  pub added-yes : inRange z ≡ true → {t : State} → t ≡ stateRows (takes (stateOf s) i z) → record { declines = false; state = t } ≡ added (stateOf s) i z
   unfolding added
   added-yes e d = rw e (ap (λ (u : State). record { declines = false; state = u }) d)
 
@@ -128,7 +128,7 @@ module _ (p : Program) (s t : State) (i : ℕ) (h : i < length (stepsOf p)) (now
   unfolding ran declinedFrom
   run-declines l d =
       let number : suc i ≡ declined (stepsOf p) (stateOf s) = rw (sym test ∙ d) at more-number in
-      let same : s ≡ rowsOf (run (stepsOf p) (stateOf s)) = sym (ap rowsOf (run-declined (stepsOf p) (stateOf s) i number) ∙ rows-back s l) in
+      let same : s ≡ stateRows (run (stepsOf p) (stateOf s)) = sym (ap stateRows (run-declined (stepsOf p) (stateOf s) i number) ∙ rows-back s l) in
       λ k. record { declined = number k; state = same k }
 
   -- after one that does not, the run goes on
@@ -136,7 +136,7 @@ module _ (p : Program) (s t : State) (i : ℕ) (h : i < length (stepsOf p)) (now
   unfolding stepped declinedFrom afterAll
   run-on inside d =
       let on : declines (getD (p .steps) i noStep) (stateOf t) ≡ false = sym test ∙ d in
-      let rows : r .state ≡ rowsOf (after (getD (p .steps) i noStep) (stateOf t)) = rw on at (ap (λ (u : Stepped). u .state) e) in
+      let rows : r .state ≡ stateRows (after (getD (p .steps) i noStep) (stateOf t)) = rw on at (ap (λ (u : Stepped). u .state) e) in
       let next : stateOf (r .state) ≡ after (getD (p .steps) i noStep) (stateOf t) = ap stateOf rows ∙ state-rows _ (after-past (getD (p .steps) i noStep) t (now-at .long) inside) in
       record {
         long = ap (λ (u : State). length (u .values)) rows ∙ rows-long _;
@@ -150,7 +150,7 @@ unfolding ran declinedFrom afterAll
 run-ends p s t i h now-at =
     let number : 0 ≡ declined (stepsOf p) (stateOf s) = rw (drop-of-length-le (stepsOf p) h) at (now-at .number) in
     let values : stateOf t ≡ afterAll (stepsOf p) (stateOf s) = rw (drop-of-length-le (stepsOf p) h) at (now-at .values) in
-    let same : t ≡ rowsOf (run (stepsOf p) (stateOf s)) = sym (ap rowsOf (run-through (stepsOf p) (stateOf s) number ∙ sym values) ∙ rows-back t (now-at .long)) in
+    let same : t ≡ stateRows (run (stepsOf p) (stateOf s)) = sym (ap stateRows (run-through (stepsOf p) (stateOf s) number ∙ sym values) ∙ rows-back t (now-at .long)) in
     λ k. record { declined = number k; state = same k }
 
 -- ---- for the callers of a run

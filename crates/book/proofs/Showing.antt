@@ -1,6 +1,6 @@
 -- Show: the numbers of the transactions at the places, and what each answer says of the buffer.
 use mathlib.Core.Path.{_≡_, ap, _∙_, fun-ext}
-use mathlib.Core.Bool.{true, false, cond}
+use mathlib.Core.Bool.{true, false}
 use mathlib.Core.List.{List, map}
 use Prim.Native.Nat.{ℕ, _+_, _≤_, _<_}
 use native.Mathlib.Omega.{arith}
@@ -20,7 +20,7 @@ use Rattle.book.specs.declared.Book.{Book}
 use Rattle.book.specs.declared.Open.{Open}
 use Rattle.book.specs.declared.Shown.{Shown}
 use Rattle.book.specs.Answers.{firstOf}
-use Rattle.book.specs.Book.{noOpen, itemAt}
+use Rattle.book.specs.Book.{noOpen}
 use Rattle.book.specs.SoundTest.{sound}
 use Rattle.book.specs.Show.{tagNumber, lineOf, heldLine, lineShown, showAnswer, shown, show}
 

@@ -1,6 +1,6 @@
 -- States in rows: what holding one tells of it, and the values that its rows give.
-use mathlib.Core.Path.{_≡_, refl, sym, ap, ap₂, _∙_, fun-ext}
-use mathlib.Core.List.{List, _∷_}
+use mathlib.Core.Path.{_≡_, refl, sym, ap, _∙_, fun-ext}
+use mathlib.Core.List.{List}
 use Prim.Native.Nat.{ℕ, zero, suc, _+_, _≤_, _<_}
 use native.Mathlib.Nat.{add-zero, zero-add}
 use native.Mathlib.Omega.{arith}
@@ -12,13 +12,13 @@ use lib.Seq.{ext-getD, getD-set-same, getD-set-other}
 use mir.Val.{Val}
 use borrow.Author.Tests.{eqb-true, eqb-false, ltb-true, ltb-false}
 use Rattle.conditions.proofs.Laws.Below.{by-cases}
-use Rattle.book.specs.declared.program.Value.{Value}
-use Rattle.book.specs.declared.program.State.{State}
+use Rattle.book.specs.declared.state.Value.{Value}
+use Rattle.book.specs.declared.state.State.{State}
 use Rattle.book.specs.Book.{mostItems}
 use Rattle.book.specs.Programs.{takes}
-use Rattle.book.specs.States.{valueOf, stateOf, valuesFrom, rowsOf}
-use Rattle.book.proofs.program.Value as TValue
-use Rattle.book.proofs.program.State as TState
+use Rattle.book.specs.States.{valueOf, stateOf, valuesFrom, stateRows}
+use Rattle.book.proofs.state.Value as TValue
+use Rattle.book.proofs.state.State as TState
 
 -- s is a value that code holds
 pub record Held (s : State) : Type 0 where
@@ -42,21 +42,21 @@ getD-values i (suc n) s zero d h = rw (add-zero i)
 getD-values i (suc n) s (suc j) d h =
     let same : suc i + j ≡ i + suc j = omega arith in getD-values (suc i) n s j d (omega arith) ∙ ap (λ (k : ℕ). valueOf (s k)) same
 
-pub rows-long : (s : ℕ → ℤ) → length (rowsOf s .values) ≡ mostItems
-unfolding rowsOf
+pub rows-long : (s : ℕ → ℤ) → length (stateRows s .values) ≡ mostItems
+unfolding stateRows
 rows-long s = length-values 0 mostItems s
 
 -- a state of the code is known by its values
-pub rows-back : (s : State) → length (s .values) ≡ mostItems → rowsOf (stateOf s) ≡ s
-unfolding rowsOf stateOf
+pub rows-back : (s : State) → length (s .values) ≡ mostItems → stateRows (stateOf s) ≡ s
+unfolding stateRows stateOf
 rows-back s l =
     ap (λ (vs : List Value). record { values = vs })
     (ext-getD (valueOf (pos 0)) _ _ (length-values 0 mostItems (stateOf s) ∙ sym l) (λ j h.
     getD-values 0 mostItems (stateOf s) j (valueOf (pos 0)) (omega (arith, length-values 0 mostItems (stateOf s))) ∙ ap (λ (k : ℕ). valueOf (stateOf s k)) (zero-add j)))
 
 -- rows keep the values of the items
-pub state-row : (s : ℕ → ℤ) (i : ℕ) → i < mostItems → stateOf (rowsOf s) i ≡ s i
-unfolding rowsOf stateOf
+pub state-row : (s : ℕ → ℤ) (i : ℕ) → i < mostItems → stateOf (stateRows s) i ≡ s i
+unfolding stateRows stateOf
 state-row s i h = ap (λ (v : Value). v .0) (getD-values 0 mostItems s i (valueOf (pos 0)) h) ∙ ap s (zero-add i)
 
 -- past them there is 0
@@ -64,20 +64,10 @@ pub state-past : (s : State) → length (s .values) ≡ mostItems → (i : ℕ) 
 unfolding stateOf
 state-past s l i h = ap (λ (v : Value). v .0) (List·getD-eq-default (s .values) (valueOf (pos 0)) (omega arith))
 
-pub state-rows : (s : ℕ → ℤ) → ((i : ℕ) → mostItems ≤ i → s i ≡ pos 0) → stateOf (rowsOf s) ≡ s
+pub state-rows : (s : ℕ → ℤ) → ((i : ℕ) → mostItems ≤ i → s i ≡ pos 0) → stateOf (stateRows s) ≡ s
 state-rows s past = fun-ext (λ i. by-cases (ltb i mostItems)
     (λ e. state-row s i (ltb-true i mostItems e))
-    (λ e. let h : mostItems ≤ i = ltb-false i mostItems e in state-past (rowsOf s) (rows-long s) i h ∙ sym (past i h)))
-
--- two states with the same values of the items have the same rows
-values-same : (i n : ℕ) (s t : ℕ → ℤ) → ((j : ℕ) → j < i + n → s j ≡ t j) → valuesFrom i n s ≡ valuesFrom i n t
-unfolding valuesFrom
-values-same i zero s t e = refl
-values-same i (suc n) s t e = ap₂ _∷_ (ap valueOf (e i (omega arith))) (values-same (suc i) n s t (λ j h. e j (omega arith)))
-
-pub rows-same : (s t : ℕ → ℤ) → ((i : ℕ) → i < mostItems → s i ≡ t i) → rowsOf s ≡ rowsOf t
-unfolding rowsOf
-rows-same s t e = ap (λ (vs : List Value). record { values = vs }) (values-same 0 mostItems s t (λ j h. e j (omega arith)))
+    (λ e. let h : mostItems ≤ i = ltb-false i mostItems e in state-past (stateRows s) (rows-long s) i h ∙ sym (past i h)))
 
 -- an item takes a value
 module _ (s : State) (i : ℕ) (v : Value) (l : length (s .values) ≡ mostItems) (h : i < mostItems) where
@@ -88,5 +78,5 @@ module _ (s : State) (i : ℕ) (v : Value) (l : length (s .values) ≡ mostItems
       (λ e. rw e (rw (sym (eqb-true i j e)) (ap (λ (w : Value). w .0) (getD-set-same (s .values) i v (valueOf (pos 0)) (omega arith)))))
       (λ e. rw e (ap (λ (w : Value). w .0) (getD-set-other (s .values) i j v (valueOf (pos 0)) (λ q. eqb-false i j e (sym q)))))
 
-  pub set-rows : record { values = set (s .values) i v } ≡ rowsOf (takes (stateOf s) i (v .0))
-  set-rows = sym (rows-back (record { values = set (s .values) i v }) (length-set (s .values) i v ∙ l)) ∙ ap rowsOf (fun-ext set-row)
+  pub set-rows : record { values = set (s .values) i v } ≡ stateRows (takes (stateOf s) i (v .0))
+  set-rows = sym (rows-back (record { values = set (s .values) i v }) (length-set (s .values) i v ∙ l)) ∙ ap stateRows (fun-ext set-row)

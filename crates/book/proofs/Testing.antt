@@ -13,9 +13,9 @@ use Rattle.polyvalues.specs.declared.polyvalue.Pair.{Pair}
 use Rattle.polyvalues.specs.declared.polyvalue.Polyvalue.{Polyvalue}
 use Rattle.polyvalues.specs.Pairs.{noPair, assignments, blank}
 use Rattle.polyvalues.specs.Values.{equal}
-use Rattle.polyvalues.specs.Polyvalues.{each, room, rowsOf, inUse, packed}
+use Rattle.polyvalues.specs.Polyvalues.{each, mostPairs, rowsOf, inUse, packed}
 use Rattle.polyvalues.specs.Polyvalues.{sound as soundPolyvalue}
-use Rattle.polyvalues.specs.Operations.{same, together}
+use Rattle.polyvalues.specs.Operations.{sameRows, same, together}
 use Rattle.polyvalues.proofs.Laws.Packed.{sound-well-formed}
 use Rattle.polyvalues.proofs.Laws.Paired.{AllRows, rows-long}
 use Rattle.polyvalues.proofs.Known.{Held, all-rows}
@@ -27,7 +27,7 @@ use Rattle.book.specs.declared.Item.{Item}
 use Rattle.book.specs.declared.Open.{Open}
 use Rattle.book.specs.declared.Book.{Book}
 use Rattle.book.specs.Book.{mostDistricts, mostItems, lastNumber, noRecord, noItem, noOpen, recordOn, itemAt, itemOn, named, placeOf, itemDepends}
-use Rattle.book.specs.SoundTest.{implies, sameRows, sameCondition, samePolyvalue, sameItem, soundPending, soundRow, soundItem}
+use Rattle.book.specs.SoundTest.{implies, sameCondition, samePolyvalue, sameItem, soundPending, soundRow, soundItem}
 use Rattle.book.proofs.Laws.Same.{same-paired, same-polyvalue}
 use Rattle.book.proofs.Laws.Room.{together-self}
 
@@ -35,7 +35,7 @@ use Rattle.book.proofs.Laws.Room.{together-self}
 
 -- a polyvalue with all its rows in use
 abbrev pub whole : Polyvalue → Polyvalue
-whole q = record { count = room; values = q .values; conditions = q .conditions }
+whole q = record { count = mostPairs; values = q .values; conditions = q .conditions }
 
 pub whole-same : {q r : Polyvalue} → Held q → Held r → same (inUse (whole q)) (inUse (whole r))
     ≡ (sameRows equal (q .values) (r .values) && sameRows sameCondition (q .conditions) (r .conditions))
@@ -43,7 +43,7 @@ unfolding inUse
 whole-same {q} {r} h l =
     let all : AllRows q = all-rows h in
     let other : AllRows r = all-rows l in
-    ap₂ same (take-all room (rowsOf q) (omega (arith, rows-long all))) (take-all room (rowsOf r) (omega (arith, rows-long other)))
+    ap₂ same (take-all mostPairs (rowsOf q) (omega (arith, rows-long all))) (take-all mostPairs (rowsOf r) (omega (arith, rows-long other)))
     ∙ same-paired (q .values) (r .values) (q .conditions) (r .conditions) (all .values ∙ sym (all .conditions)) (other .values ∙ sym (other .conditions))
 
 -- rows that are all blank are rows of zeros
@@ -96,8 +96,8 @@ row-idle w b x l e =
     (λ s. by-cases (samePolyvalue (x .pending) (x .held))
     (λ t.
     let same : x .pending ≡ x .held = same-polyvalue (x .pending) (x .held) t in
-    let few : leb (together (inUse (x .held)) (inUse (x .held))) room ≡ true = le-leb _ _ (together-self w (inUse (x .held)) (sound-well-formed w (x .held) s)) in
-    rw (l, e, s, t, ap (soundPolyvalue w) same ∙ s, ap (λ (p : Polyvalue). leb (together (inUse (x .held)) (inUse p)) room) same ∙ few))
+    let few : leb (together (inUse (x .held)) (inUse (x .held))) mostPairs ≡ true = le-leb _ _ (together-self w (inUse (x .held)) (sound-well-formed w (x .held) s)) in
+    rw (l, e, s, t, ap (soundPolyvalue w) same ∙ s, ap (λ (p : Polyvalue). leb (together (inUse (x .held)) (inUse p)) mostPairs) same ∙ few))
     (λ t. rw (l, e, s, t, and-false)))
     (λ s. rw (l, s))
 
@@ -105,7 +105,7 @@ row-idle w b x l e =
 pub row-taken : (w : ℕ) (b : Book) (x : Item) → ltb (x .district) (b .districts) ≡ true → eqb (itemOn b x) 0 ≡ false
     → soundRow w b x
     ≡ (soundPolyvalue w (x .held) && soundPolyvalue w (x .pending) && not (itemDepends w x (placeOf w b (itemOn b x)))
-    && leb (together (inUse (x .held)) (inUse (x .pending))) room)
+    && leb (together (inUse (x .held)) (inUse (x .pending))) mostPairs)
 unfolding soundRow soundPending
 row-taken w b x l e = rw (l, e)
 

@@ -22,7 +22,7 @@ use Rattle.polyvalues.specs.declared.polyvalue.Pair.{Pair}
 use Rattle.polyvalues.specs.declared.polyvalue.Polyvalue.{Polyvalue}
 use Rattle.polyvalues.specs.declared.polyvalue.Joined.{Joined}
 use Rattle.polyvalues.specs.Pairs.{assignments, applying}
-use Rattle.polyvalues.specs.Polyvalues.{room, inUse, packed, fitted}
+use Rattle.polyvalues.specs.Polyvalues.{mostPairs, inUse, packed, fitted}
 use Rattle.polyvalues.specs.Simplify.{join, canonOver, canon}
 use Rattle.polyvalues.specs.Operations.{together}
 use Rattle.polyvalues.proofs.Laws.Applying.{applying-value}
@@ -31,7 +31,7 @@ use Rattle.polyvalues.proofs.Laws.Packed.{inUse-packed, sound-well-formed}
 use Rattle.polyvalues.proofs.Laws.Room.{over-count}
 use Rattle.book.specs.declared.Book.{Book}
 use Rattle.book.specs.declared.Step.{Step}
-use Rattle.book.specs.declared.program.State.{State}
+use Rattle.book.specs.declared.state.State.{State}
 use Rattle.book.specs.declared.program.Ran.{Ran}
 use Rattle.book.specs.declared.alternatives.Alternative.{Alternative}
 use Rattle.book.specs.declared.alternatives.Spread.{Spread}
@@ -40,7 +40,7 @@ use Rattle.book.specs.Book.{mostItems, void, itemAt}
 use Rattle.book.specs.Programs.{takes, declined, run, touches}
 use Rattle.book.specs.SoundTest.{sound}
 use Rattle.book.specs.Begin.{someStep, outside, heldAt, declinesAt, results, tooMany}
-use Rattle.book.specs.States.{stateOf, rowsOf, ran}
+use Rattle.book.specs.States.{stateOf, stateRows, ran}
 use Rattle.book.specs.Alternatives.{blockBelow, block, someDeclines, someGrants, StartsAs, joinedRow, rowAfter, RowsAfter, Covers, nothingWorked, WorkedOut}
 use Rattle.book.proofs.Laws.Programs.{declined-reads, run-reads}
 use Rattle.book.proofs.Laws.Sound.{test-sound}
@@ -68,7 +68,7 @@ module _ (b : Book) (xs : List Step) (a k : ℕ) (most : b .count ≤ mostItems)
       }
 
   pub choosing-touched : touches xs k ≡ true → {p : Pair} → p ≡ applying (inUse (itemAt b k .held)) a → {r : Alternative}
-      → (number (r .condition) ≡ intersection places (number (t .condition)) (assignments p)) × (r .state ≡ rowsOf (takes (stateOf (t .state)) k (p .value)))
+      → (number (r .condition) ≡ intersection places (number (t .condition)) (assignments p)) × (r .state ≡ stateRows (takes (stateOf (t .state)) k (p .value)))
       → Choosing b xs a (suc k) r
   unfolding blockBelow
   choosing-touched e {p} q {r} new =
@@ -116,13 +116,13 @@ module _ (xs : List Step) (s : State) (c : ℕ) (new : List Polyvalue) where
 
 -- ---- room
 
-not-fitted : (q : Polyvalue) (ps : List Pair) → fitted q ps .fits ≡ false → room < length ps
+not-fitted : (q : Polyvalue) (ps : List Pair) → fitted q ps .fits ≡ false → mostPairs < length ps
 unfolding fitted
-not-fitted q ps e = by-cases (leb (length ps) room) (λ t. absurd (true≢false (rw t at e))) (λ t. leb-false (length ps) room t)
+not-fitted q ps e = by-cases (leb (length ps) mostPairs) (λ t. absurd (true≢false (rw t at e))) (λ t. leb-false (length ps) mostPairs t)
 
 fitted-row : (q : Polyvalue) (ps : List Pair) → fitted q ps .fits ≡ true → fitted q ps .polyvalue ≡ packed ps
 unfolding fitted
-fitted-row q ps e = by-cases (leb (length ps) room) (λ t. rw t) (λ t. absurd (true≢false (sym (rw t at e))))
+fitted-row q ps e = by-cases (leb (length ps) mostPairs) (λ t. rw t) (λ t. absurd (true≢false (sym (rw t at e))))
 
 -- ---- one more alternative
 
@@ -164,10 +164,10 @@ module _ (b : Book) (xs : List Step) (sure : sound places b ≡ true) (inside : 
     over : (i : ℕ) → touches xs i ≡ true → rowAfter places xs (e .state) c (t .new) i .fits ≡ false → tooMany places b xs ≡ true
     unfolding tooMany results
     over i u f =
-        let many : room < length (more i) = not-fitted (getD (t .new) i void) (more i) (sym (ap (λ (j : Joined). j .fits) (new-row i u k)) ∙ f) in
-        let all-many : room < together (inUse (itemAt b i .held)) (canon places (λ c. run xs (heldAt b c) i)) =
+        let many : mostPairs < length (more i) = not-fitted (getD (t .new) i void) (more i) (sym (ap (λ (j : Joined). j .fits) (new-row i u k)) ∙ f) in
+        let all-many : mostPairs < together (inUse (itemAt b i .held)) (canon places (λ c. run xs (heldAt b c) i)) =
         omega (arith, over-count places (λ c. run xs (heldAt b c) i) (union places (number (t .covered)) (block places b xs a)) (inUse (itemAt b i .held))) in
-        any-of (b .count) _ i (table i u) (rw u (lt-ltb room _ all-many))
+        any-of (b .count) _ i (table i u) (rw u (lt-ltb mostPairs _ all-many))
 
     pub no-room : r .fits ≡ false → tooMany places b xs ≡ true
     unfolding joinedRow
@@ -276,12 +276,12 @@ module _ (b : Book) (xs : List Step) (sure : sound places b ≡ true) where
 
 -- item i's old and new values are more than there is room for
 abbrev pub over-at : Book → List Step → ℕ → Bool
-over-at b xs i = touches xs i && ltb room (together (inUse (itemAt b i .held)) (results places b xs i))
+over-at b xs i = touches xs i && ltb mostPairs (together (inUse (itemAt b i .held)) (results places b xs i))
 
 pub over-worked : (b : Book) (xs : List Step) {t : Worked} → WorkedOut places b xs t → (i : ℕ) → i < b .count → {u v : Bool} → u ≡ touches xs i
-    → v ≡ (u && ltb room (together (inUse (itemAt b i .held)) (inUse (getD (t .new) i void)))) → v ≡ over-at b xs i
+    → v ≡ (u && ltb mostPairs (together (inUse (itemAt b i .held)) (inUse (getD (t .new) i void)))) → v ≡ over-at b xs i
 over-worked b xs {t} w i h {u} {v} e is =
-    is ∙ ap (λ (x : Bool). x && ltb room (together (inUse (itemAt b i .held)) (inUse (getD (t .new) i void)))) e
+    is ∙ ap (λ (x : Bool). x && ltb mostPairs (together (inUse (itemAt b i .held)) (inUse (getD (t .new) i void)))) e
     ∙ by-cases (touches xs i)
-    (λ y. rw y (ap (λ (ps : List Pair). ltb room (together (inUse (itemAt b i .held)) ps)) (ap inUse (w .rows i h y) ∙ inUse-packed (results places b xs i))))
+    (λ y. rw y (ap (λ (ps : List Pair). ltb mostPairs (together (inUse (itemAt b i .held)) ps)) (ap inUse (w .rows i h y) ∙ inUse-packed (results places b xs i))))
     (λ y. rw y)

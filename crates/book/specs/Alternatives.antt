@@ -15,7 +15,7 @@ use Rattle.polyvalues.specs.Polyvalues.{inUse, packed, fitted}
 use Rattle.polyvalues.specs.Simplify.{join, canonOver}
 use Rattle.book.specs.declared.Book.{Book}
 use Rattle.book.specs.declared.Step.{Step}
-use Rattle.book.specs.declared.program.State.{State}
+use Rattle.book.specs.declared.state.State.{State}
 use Rattle.book.specs.declared.alternatives.Worked.{Worked}
 use Rattle.book.specs.Book.{mostItems, void, itemAt}
 use Rattle.book.specs.Programs.{run, touches}
@@ -74,11 +74,11 @@ pub record Covers (w : ℕ) (b : Book) (xs : List Step) (t : Worked) : Type 0 wh
 unfoldable pub nothingWorked : Worked
 nothingWorked = record { fits = true; declines = false; grants = false; covered = ofNumber 0; new = replicate mostItems (packed []) }
 
--- what the answer says of them: "1 if no assignment declines, 0 if all do, 2 otherwise"
-abbrev pub grantOf : Worked → ℕ
-grantOf t = cond (t .declines) (cond (t .grants) 2 0) 1
+-- what the answer says where some decline, and where some do not: "1 if no assignment declines, 0 if all do, 2 otherwise"
+abbrev pub grantOf : Bool → Bool → ℕ
+grantOf declines grants = cond declines (cond grants 2 0) 1
 
 -- all are worked out
 pub record WorkedOut (w : ℕ) (b : Book) (xs : List Step) (t : Worked) : Type 0 where
   pub rows : (i : ℕ) → i < b .count → touches xs i ≡ true → getD (t .new) i void ≡ packed (results w b xs i)
-  pub granted : grantOf t ≡ grant w b xs
+  pub granted : grantOf (t .declines) (t .grants) ≡ grant w b xs

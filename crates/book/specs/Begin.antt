@@ -11,7 +11,7 @@ use Rattle.conditions.specs.Sets.{setOf}
 use Rattle.polyvalues.specs.declared.polyvalue.Pair.{Pair}
 use Rattle.polyvalues.specs.Values.{inRange}
 use Rattle.polyvalues.specs.Pairs.{at}
-use Rattle.polyvalues.specs.Polyvalues.{room, inUse, packed}
+use Rattle.polyvalues.specs.Polyvalues.{mostPairs, inUse, packed}
 use Rattle.polyvalues.specs.Simplify.{canon}
 use Rattle.polyvalues.specs.Operations.{together}
 use Rattle.book.specs.declared.Answer.{Answer}
@@ -90,7 +90,7 @@ someBusy b xs = any (b .count) (λ i. touches xs i && not (eqb (itemOn b (itemAt
 -- "a touched item's old and new values, over all 64 assignments, are more than 8 different ones"
 unfoldable pub tooMany : ℕ → Book → List Step → Bool
 tooMany w b xs = any (b .count) (λ i.
-    let many : Bool = ltb room (together (inUse (itemAt b i .held)) (results w b xs i)) in
+    let many : Bool = ltb mostPairs (together (inUse (itemAt b i .held)) (results w b xs i)) in
     touches xs i && many)
 
 -- 15, then "Begin: 3, 2, 5, 6, 7, 8, each over all steps before the next."

@@ -109,6 +109,10 @@ named n o = isOpen o && eqb (o .number .0) n
 unfoldable pub placeOf : ℕ → Book → ℕ → ℕ
 placeOf w b n = first w (λ q. named n (openAt b q))
 
+-- the row of that transaction
+abbrev pub openOf : ℕ → Book → ℕ → Open
+openOf w b n = openAt b (placeOf w b n)
+
 -- "the lowest free one", or w where none is free
 unfoldable pub freePlace : ℕ → Book → ℕ
 freePlace w b = first w (λ q. not (isOpen (openAt b q)))

@@ -11,9 +11,9 @@ use Rattle.book.specs.declared.Book.{Book}
 use Rattle.book.specs.declared.Open.{Open}
 use Rattle.book.specs.declared.Done.{Done}
 use Rattle.book.specs.Answers.{firstOf}
-use Rattle.book.specs.Book.{placeOf, withOpen}
+use Rattle.book.specs.Book.{placeOf, withOpen, openOf}
 use Rattle.book.specs.Forget.{decided}
-use Rattle.book.specs.Transactions.{unsound, notOpen, openOf, done}
+use Rattle.book.specs.Transactions.{unsound, notOpen, done}
 
 -- "a touched district has not reported ready"
 unfoldable pub someNotReady : Book → Open → Bool

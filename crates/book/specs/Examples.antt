@@ -142,15 +142,3 @@ Example8 =
 -- "9. That item, T1 complete: `0:T2 4:!T2`.": number 1 is closed
 abbrev pub Example9 : Type 0
 Example9 = Holds told 0 2 (pair (pos 0) T2 ∷ pair (pos 4) (aborted T2) ∷ [])
-
--- all of them
-pub record Examples : Type 0 where
-  pub one : Example1
-  pub two : Example2
-  pub three : Example3
-  pub four : Example4
-  pub five : Example5
-  pub six : Example6
-  pub seven : Example7
-  pub eight : Example8
-  pub nine : Example9

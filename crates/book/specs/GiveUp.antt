@@ -12,10 +12,10 @@ use Rattle.book.specs.declared.Open.{Open}
 use Rattle.book.specs.declared.Done.{Done}
 use Rattle.book.specs.Answers.{firstOf}
 use Rattle.book.specs.Rows.{rows}
-use Rattle.book.specs.Book.{recordAt, placeOf, including, withRecords, withItems, withOpen}
+use Rattle.book.specs.Book.{recordAt, placeOf, including, withRecords, withItems, withOpen, openOf}
 use Rattle.book.specs.Records.{computingOn, busyOn, giveUpRecord}
 use Rattle.book.specs.Items.{concerned, drop, split}
-use Rattle.book.specs.Transactions.{unsound, notOpen, noDistrict, openOf, done}
+use Rattle.book.specs.Transactions.{unsound, notOpen, noDistrict, done}
 
 -- 15, 4, 1, 9: "give up: neither computing nor waiting on it"
 unfoldable pub giveUpAnswer : ℕ → Book → ℕ → ℕ → Answer

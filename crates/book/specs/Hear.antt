@@ -13,11 +13,11 @@ use Rattle.book.specs.declared.Open.{Open}
 use Rattle.book.specs.declared.Done.{Done}
 use Rattle.book.specs.Answers.{firstOf}
 use Rattle.book.specs.Rows.{rows}
-use Rattle.book.specs.Book.{recordAt, placeOf, withRecords, withItems}
+use Rattle.book.specs.Book.{recordAt, placeOf, withRecords, withItems, openOf}
 use Rattle.book.specs.Records.{hearRecord}
 use Rattle.book.specs.Items.{there, concerned, install, drop, reduceItem}
 use Rattle.book.specs.Forget.{decided}
-use Rattle.book.specs.Transactions.{unsound, notOpen, noDistrict, openOf, done}
+use Rattle.book.specs.Transactions.{unsound, notOpen, noDistrict, done}
 
 -- 15, 4, 1, 12: "hear before a decision"
 unfoldable pub hearAnswer : ℕ → Book → ℕ → ℕ → Answer

@@ -9,9 +9,9 @@ use Rattle.book.specs.declared.Book.{Book}
 use Rattle.book.specs.declared.Open.{Open}
 use Rattle.book.specs.declared.Done.{Done}
 use Rattle.book.specs.Answers.{firstOf}
-use Rattle.book.specs.Book.{recordAt, placeOf, including, withRecords, withOpen}
+use Rattle.book.specs.Book.{recordAt, placeOf, including, withRecords, withOpen, openOf}
 use Rattle.book.specs.Records.{computingOn, readyRecord}
-use Rattle.book.specs.Transactions.{unsound, notOpen, noDistrict, openOf, done}
+use Rattle.book.specs.Transactions.{unsound, notOpen, noDistrict, done}
 
 -- 15, 4, 1, 9: "ready: district not computing on it"
 unfoldable pub readyAnswer : ℕ → Book → ℕ → ℕ → Answer

@@ -3,14 +3,14 @@ use mathlib.Core.Path.{_≡_}
 use mathlib.Core.Bool.{true, false}
 use Prim.Native.Nat.{ℕ, _^_, _≤_, _<_}
 use Rattle.conditions.specs.Sets.{member}
-use Rattle.polyvalues.specs.Polyvalues.{room, inUse}
+use Rattle.polyvalues.specs.Polyvalues.{mostPairs, inUse}
 use Rattle.polyvalues.specs.Polyvalues.{sound as soundPolyvalue}
 use Rattle.polyvalues.specs.Operations.{together}
 use Rattle.book.specs.declared.Record.{Record}
 use Rattle.book.specs.declared.Item.{Item}
 use Rattle.book.specs.declared.Open.{Open}
 use Rattle.book.specs.declared.Book.{Book}
-use Rattle.book.specs.Book.{mostDistricts, mostItems, lastNumber, noRecord, noItem, noOpen, recordAt, itemAt, openAt, idle, itemOn, isOpen, placeOf, itemDepends, someDepends}
+use Rattle.book.specs.Book.{mostDistricts, mostItems, lastNumber, noRecord, noItem, noOpen, recordAt, itemAt, openAt, idle, itemOn, isOpen, placeOf, openOf, itemDepends, someDepends}
 use Rattle.book.specs.Forget.{needed}
 
 -- something holds of each district and its record
@@ -28,10 +28,6 @@ EachOpen w b P = (q : ℕ) → q < w → isOpen (openAt b q) ≡ true → P q (o
 -- of each free place
 abbrev pub EachFree : ℕ → Book → (ℕ → Type 0) → Type 0
 EachFree w b P = (q : ℕ) → q < w → isOpen (openAt b q) ≡ false → P q
-
--- the open transaction that a busy district is on
-abbrev pub itsOpen : ℕ → Book → Record → Open
-itsOpen w b r = openAt b (placeOf w b (r .transaction .0))
 
 -- a sound book of w places
 pub record Sound (w : ℕ) (b : Book) : Type 0 where
@@ -69,11 +65,11 @@ pub record Sound (w : ℕ) (b : Book) : Type 0 where
   pub decidedNeeded : EachOpen w b (λ q o. 1 ≤ o .decision → needed w b q o ≡ true)
   -- "a busy district is on an open transaction that touches it"
   pub busyOpen : EachDistrict b (λ d r. idle r ≡ false → placeOf w b (r .transaction .0) < w)
-  pub busyTouched : EachDistrict b (λ d r. idle r ≡ false → member (itsOpen w b r .touched) d ≡ true)
+  pub busyTouched : EachDistrict b (λ d r. idle r ≡ false → member (openOf w b (r .transaction .0) .touched) d ≡ true)
   -- "waiting districts are in its ready set, computing ones in neither set"
-  pub waitingReady : EachDistrict b (λ d r. r .phase ≡ 2 → member (itsOpen w b r .ready) d ≡ true)
-  pub computingNotReady : EachDistrict b (λ d r. r .phase ≡ 1 → member (itsOpen w b r .ready) d ≡ false)
-  pub computingNotGave : EachDistrict b (λ d r. r .phase ≡ 1 → member (itsOpen w b r .gave) d ≡ false)
+  pub waitingReady : EachDistrict b (λ d r. r .phase ≡ 2 → member (openOf w b (r .transaction .0) .ready) d ≡ true)
+  pub computingNotReady : EachDistrict b (λ d r. r .phase ≡ 1 → member (openOf w b (r .transaction .0) .ready) d ≡ false)
+  pub computingNotGave : EachDistrict b (λ d r. r .phase ≡ 1 → member (openOf w b (r .transaction .0) .gave) d ≡ false)
   -- "ready and gave-up sets are apart and within touched"
   pub apart : EachOpen w b (λ q o. (d : ℕ) → d < b .districts → member (o .ready) d ≡ true → member (o .gave) d ≡ false)
   pub readyTouched : EachOpen w b (λ q o. (d : ℕ) → d < b .districts → member (o .ready) d ≡ true → member (o .touched) d ≡ true)
@@ -85,4 +81,4 @@ pub record Sound (w : ℕ) (b : Book) : Type 0 where
   -- "in a busy one neither depends on its own transaction"
   pub ownFree : EachItem b (λ x. 1 ≤ itemOn b x → itemDepends w x (placeOf w b (itemOn b x)) ≡ false)
   -- "and held and pending of an item have at most 8 different values together"
-  pub fewTogether : EachItem b (λ x. together (inUse (x .held)) (inUse (x .pending)) ≤ room)
+  pub fewTogether : EachItem b (λ x. together (inUse (x .held)) (inUse (x .pending)) ≤ mostPairs)

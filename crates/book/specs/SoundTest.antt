@@ -1,6 +1,5 @@
 -- Soundness as a test, row by row: "15: the book handed in is not sound" (document 01, Answer numbers). proofs/Laws/Sound.antt shows that it agrees with `Sound`.
-use mathlib.Core.Bool.{Bool, true, false, not, _&&_, cond}
-use mathlib.Core.List.{List, [], _∷_}
+use mathlib.Core.Bool.{Bool, true, not, _&&_, cond}
 use Prim.Native.Nat.{ℕ, _^_}
 use lib.Dec.{eqb, leb, ltb}
 use Rattle.conditions.specs.declared.condition.Condition.{Condition}
@@ -8,9 +7,9 @@ use Rattle.conditions.specs.Below.{all}
 use Rattle.conditions.specs.Conditions.{number}
 use Rattle.conditions.specs.Sets.{member}
 use Rattle.polyvalues.specs.declared.polyvalue.Polyvalue.{Polyvalue}
-use Rattle.polyvalues.specs.Polyvalues.{room, inUse}
+use Rattle.polyvalues.specs.Polyvalues.{mostPairs, inUse}
 use Rattle.polyvalues.specs.Polyvalues.{sound as soundPolyvalue}
-use Rattle.polyvalues.specs.Operations.{together}
+use Rattle.polyvalues.specs.Operations.{sameRows, together}
 use Rattle.polyvalues.specs.Values.{equal}
 use Rattle.book.specs.declared.Record.{Record}
 use Rattle.book.specs.declared.Item.{Item}
@@ -24,13 +23,6 @@ abbrev pub implies : Bool → Bool → Bool
 implies x y = cond x y true
 
 -- ---- equal rows
-
--- two arrays are the same, row by row
-abbrev pub sameRows : {A : Type 0} → (A → A → Bool) → List A → List A → Bool
-sameRows f [] [] = true
-sameRows f [] (y ∷ ys) = false
-sameRows f (x ∷ xs) [] = false
-sameRows f (x ∷ xs) (y ∷ ys) = f x y && sameRows f xs ys
 
 -- two conditions are the same set
 abbrev pub sameCondition : Condition → Condition → Bool
@@ -80,7 +72,7 @@ soundPending w b n x = cond (eqb n 0) (samePolyvalue (x .pending) (x .held)) (no
 unfoldable pub soundRow : ℕ → Book → Item → Bool
 soundRow w b x =
     ltb (x .district) (b .districts) && soundPolyvalue w (x .held) && soundPolyvalue w (x .pending) && soundPending w b (itemOn b x) x
-    && leb (together (inUse (x .held)) (inUse (x .pending))) room
+    && leb (together (inUse (x .held)) (inUse (x .pending))) mostPairs
 
 -- row i of the items
 unfoldable pub soundItem : ℕ → Book → ℕ → Bool

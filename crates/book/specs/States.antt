@@ -7,9 +7,9 @@ use lib.ListN.{length, getD, take, replicate}
 use Rattle.polyvalues.specs.Values.{inRange}
 use Rattle.book.specs.declared.Step.{Step}
 use Rattle.book.specs.declared.program.Program.{Program}
-use Rattle.book.specs.declared.program.Value.{Value}
-use Rattle.book.specs.declared.program.State.{State}
-use Rattle.book.specs.declared.program.Stepped.{Stepped}
+use Rattle.book.specs.declared.state.Value.{Value}
+use Rattle.book.specs.declared.state.State.{State}
+use Rattle.book.specs.declared.state.Stepped.{Stepped}
 use Rattle.book.specs.declared.program.Ran.{Ran}
 use Rattle.book.specs.Book.{mostItems}
 use Rattle.book.specs.Programs.{takes, declines, after, declined, run}
@@ -45,19 +45,19 @@ valuesFrom i zero s = []
 valuesFrom i (suc n) s = valueOf (s i) ∷ valuesFrom (suc i) n s
 
 -- a state's rows: the value of each item that a book may have
-unfoldable pub rowsOf : (ℕ → ℤ) → State
-rowsOf s = record { values = valuesFrom 0 mostItems s }
+unfoldable pub stateRows : (ℕ → ℤ) → State
+stateRows s = record { values = valuesFrom 0 mostItems s }
 
 -- ---- a step, and a program
 
 -- "Add: add the operand; decline if the sum leaves −9,999 to 9,999.": item i takes the sum z, or else the state is as it was
 unfoldable pub added : (ℕ → ℤ) → ℕ → ℤ → Stepped
-added s i z = record { declines = not (inRange z); state = rowsOf (cond (inRange z) (takes s i z) s) }
+added s i z = record { declines = not (inRange z); state = stateRows (cond (inRange z) (takes s i z) s) }
 
 -- a step declines, and then the state is as it was; or it does not, and this is the state after it
 unfoldable pub stepped : Step → (ℕ → ℤ) → Stepped
-stepped x s = record { declines = declines x s; state = rowsOf (cond (declines x s) s (after x s)) }
+stepped x s = record { declines = declines x s; state = stateRows (cond (declines x s) s (after x s)) }
 
 -- which step declines, and the state after the program
 unfoldable pub ran : List Step → (ℕ → ℤ) → Ran
-ran xs s = record { declined = declined xs s; state = rowsOf (run xs s) }
+ran xs s = record { declined = declined xs s; state = stateRows (run xs s) }

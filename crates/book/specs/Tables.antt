@@ -12,4 +12,4 @@ pub record TablesOf (w : ℕ) (b : Book) (t : Tables) : Type 0 where
   pub districts : b .districts ≡ t .districts
   pub records : b .records ≡ t .records
   pub places : b .«open» ≡ t .«open»
-  pub needed : (q : ℕ) → q < w → member (t .needed) q ≡ someDepends w b q
+  pub depended : (q : ℕ) → q < w → member (t .depended) q ≡ someDepends w b q

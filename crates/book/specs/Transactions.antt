@@ -4,10 +4,9 @@ use Prim.Native.Nat.{ℕ}
 use lib.Dec.{ltb}
 use Rattle.book.specs.declared.Answer.{Answer}
 use Rattle.book.specs.declared.Book.{Book}
-use Rattle.book.specs.declared.Open.{Open}
 use Rattle.book.specs.declared.Done.{Done}
 use Rattle.book.specs.Answers.{accepted}
-use Rattle.book.specs.Book.{openAt, placeOf}
+use Rattle.book.specs.Book.{placeOf}
 use Rattle.book.specs.SoundTest.{sound}
 use Rattle.book.specs.Forget.{forget}
 
@@ -22,10 +21,6 @@ notOpen w b n = not (ltb (placeOf w b n) w)
 -- "1: district number not below the count"
 abbrev pub noDistrict : Book → ℕ → Bool
 noDistrict b d = not (ltb d (b .districts))
-
--- the row of the open transaction number n
-abbrev pub openOf : ℕ → Book → ℕ → Open
-openOf w b n = openAt b (placeOf w b n)
 
 -- accepted: the book after the event, with forgetting "at the end". Refused: "leaves the book .. unchanged"
 unfoldable pub done : ℕ → Answer → Book → Book → Done

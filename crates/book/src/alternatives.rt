@@ -1,26 +1,26 @@
 // Begin's work: the program is run once for each block of assignments, and the results are joined.
 ghost use mathlib.Core.Path.{_≡_};
-ghost use mathlib.Core.Bool.{true, false, _&&_, cond};
+ghost use mathlib.Core.Bool.{true, false, _&&_};
 ghost use Prim.Native.Nat.{ℕ, _^_, _≤_, _<_};
 ghost use lib.Dec.{ltb};
 ghost use Rattle.conditions.specs.Below.{all};
 ghost use Rattle.conditions.specs.Places.{places};
 ghost use Rattle.conditions.specs.Conditions.{number, union, intersection};
 ghost use Rattle.polyvalues.specs.Pairs.{assignments};
-ghost use Rattle.polyvalues.specs.Polyvalues.{room, inUse};
+ghost use Rattle.polyvalues.specs.Polyvalues.{mostPairs, inUse};
 ghost use Rattle.polyvalues.specs.Operations.{together};
 ghost use Rattle.book.specs.declared.Book.{Book};
 ghost use Rattle.book.specs.Book.{mostItems};
 ghost use Rattle.book.specs.Programs.{takes};
 ghost use Rattle.book.specs.SoundTest.{sound};
 ghost use Rattle.book.specs.Begin.{someStep, outside, tooMany};
-ghost use Rattle.book.specs.States.{stepsOf, stateOf, rowsOf};
-ghost use Rattle.book.specs.Alternatives.{block, StartsAs, joinedRow, rowAfter, RowsAfter, Covers, nothingWorked, WorkedOut};
+ghost use Rattle.book.specs.States.{stepsOf, stateOf, stateRows};
+ghost use Rattle.book.specs.Alternatives.{block, StartsAs, joinedRow, rowAfter, RowsAfter, Covers, nothingWorked, grantOf, WorkedOut};
 use crate::Book;
 use crate::Item;
 use crate::program::Program;
-use crate::program::State;
-use crate::program::Value;
+use crate::state::State;
+use crate::state::Value;
 use crate::tables::ITEMS;
 use conditions::ASSIGNMENTS;
 use conditions::Condition;
@@ -40,7 +40,7 @@ impl Alternative {
     fn with(self, item: usize, pair: Pair) -> Alternative
         requires { ⌜ item < mostItems ⌝ }
         ensures { λ r. ⌜ number (r .condition) ≡ intersection places (number (self .condition)) (assignments pair) ⌝ }
-        ensures { λ r. ⌜ r .state ≡ rowsOf (takes (stateOf (self .state)) item (pair .value)) ⌝ }
+        ensures { λ r. ⌜ r .state ≡ stateRows (takes (stateOf (self .state)) item (pair .value)) ⌝ }
     {
         let value = pair.value;
         let condition = self.condition.intersection(pair.condition);
@@ -222,7 +222,7 @@ pub(crate) fn worked_out(b: Book, p: Program) -> Worked
 
 // Whether a touched item's old and new values are more than there is room for.
 fn over_room(x: Item, new: Polyvalue, touched: bool) -> bool
-    ensures { λ r. ⌜ r ≡ (touched && ltb room (together (inUse (x .held)) (inUse new))) ⌝ }
+    ensures { λ r. ⌜ r ≡ (touched && ltb mostPairs (together (inUse (x .held)) (inUse new))) ⌝ }
 {
     if touched {
         return PAIRS < x.held.together(new);
@@ -256,7 +256,7 @@ pub(crate) fn too_many(b: Book, p: Program, w: Worked) -> bool
 
 // 1 if no assignment declines, 0 if all do, 2 otherwise.
 pub(crate) fn granted(declines: bool, grants: bool) -> u8
-    ensures { λ r. ⌜ r ≡ cond declines (cond grants 2 0) 1 ⌝ }
+    ensures { λ r. ⌜ r ≡ grantOf declines grants ⌝ }
 {
     if declines {
         if grants {

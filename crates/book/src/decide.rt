@@ -14,6 +14,7 @@ use crate::Book;
 use crate::Done;
 use crate::Open;
 use crate::sets::has;
+use crate::tables::FREE;
 use crate::tables::item_depends;
 use crate::tables::place_of;
 use crate::tables::some_on;
@@ -68,13 +69,7 @@ fn decided(mut b: Book, q: usize, decision: u8) -> Book
         }
         i += 1;
     }
-    let closed = Open {
-        number: TransactionNumber(0),
-        touched: 0,
-        ready: 0,
-        gave: 0,
-        decision: 0,
-    };
+    let closed = FREE;
     b.open[q] = closed;
     b
 }

@@ -10,11 +10,11 @@ ghost use Rattle.book.specs.Tables.{TablesOf};
 use crate::Book;
 use crate::Open;
 use crate::sets::has;
+use crate::tables::FREE;
 use crate::tables::Tables;
 use crate::tables::places_of;
 use crate::tables::some_on;
 use conditions::PLACES;
-use conditions::TransactionNumber;
 
 // What a place holds afterwards: a decided transaction that nothing needs is closed.
 fn remembered(t: Tables, q: usize, o: Open) -> Open
@@ -28,16 +28,10 @@ fn remembered(t: Tables, q: usize, o: Open) -> Open
     if some_on(records, t.districts, o.number.0) {
         return o;
     }
-    if has(t.needed, q) {
+    if has(t.depended, q) {
         return o;
     }
-    Open {
-        number: TransactionNumber(0),
-        touched: 0,
-        ready: 0,
-        gave: 0,
-        decision: 0,
-    }
+    FREE
 }
 
 // Each place so.
@@ -62,11 +56,11 @@ pub(crate) fn forget(mut b: Book) -> Book
     ensures { λ r. ⌜ r ≡ forget Places·places b ⌝ }
 {
     let count = b.count;
-    let mut needed: u8 = 0;
+    let mut depended: u8 = 0;
     let mut i: usize = 0;
     while i < count {
         let x = b.items[i];
-        needed = needed | places_of(x);
+        depended = depended | places_of(x);
         i += 1;
     }
     let last = b.last;
@@ -78,7 +72,7 @@ pub(crate) fn forget(mut b: Book) -> Book
         districts,
         records,
         open,
-        needed,
+        depended,
     });
     b.open = places;
     b

@@ -2,8 +2,7 @@
 ghost use mathlib.Core.Path.{_≡_};
 ghost use Prim.Native.Nat.{_<_, _≤_};
 ghost use Rattle.conditions.specs.Places.{places};
-ghost use Rattle.book.specs.Book.{mostDistricts, mostItems, placeOf};
-ghost use Rattle.book.specs.Transactions.{openOf};
+ghost use Rattle.book.specs.Book.{mostDistricts, mostItems, placeOf, openOf};
 ghost use Rattle.book.specs.Hear.{outcome, heard, hear};
 use crate::Answer;
 use crate::Book;

@@ -3,7 +3,7 @@ ghost use mathlib.Core.Path.{_≡_};
 ghost use mathlib.Core.Bool.{cond};
 ghost use Prim.Native.Nat.{_≤_};
 ghost use Rattle.conditions.specs.Places.{places};
-ghost use Rattle.polyvalues.specs.Polyvalues.{room, inUse};
+ghost use Rattle.polyvalues.specs.Polyvalues.{mostPairs, inUse};
 ghost use Rattle.polyvalues.specs.Operations.{together};
 ghost use Rattle.book.specs.declared.Book.{Book};
 ghost use Rattle.book.specs.Items.{concerned, install, drop, split, reduceItem};
@@ -50,7 +50,7 @@ fn dropped(x: Item) -> Item
 
 // Pending where the transaction at the place completes, held where it aborts.
 fn split(x: Item, q: Place) -> Item
-    requires { ⌜ together (inUse (x .pending)) (inUse (x .held)) ≤ room ⌝ }
+    requires { ⌜ together (inUse (x .pending)) (inUse (x .held)) ≤ mostPairs ⌝ }
     ensures { λ r. ⌜ r ≡ split places (q .0) x ⌝ }
 {
     let either = Polyvalue::select(q, x.pending, x.held);
@@ -119,7 +119,7 @@ pub(crate) fn given_up(
     q: Place,
     computing: bool,
 ) -> Item
-    requires { ⌜ together (inUse (x .pending)) (inUse (x .held)) ≤ room ⌝ }
+    requires { ⌜ together (inUse (x .pending)) (inUse (x .held)) ≤ mostPairs ⌝ }
     ensures { λ r. ⌜ ((b : Book) → b .records ≡ records → r ≡ giveUpItem places b (n .0) d (q .0) computing x) ⌝ }
 {
     if !is_concerned(x, records, n, d) {

@@ -9,10 +9,10 @@ ghost use Rattle.book.specs.Open.{goodItem, goodItems, goodOpening, open
 ghost use Rattle.book.specs.Openings.{openingsOf, openedRows};
 use crate::Book;
 use crate::Item;
-use crate::Open;
 use crate::Opening;
 use crate::Record;
 use crate::tables::DISTRICTS;
+use crate::tables::FREE;
 use crate::tables::ITEMS;
 use conditions::Condition;
 use conditions::PLACES;
@@ -51,13 +51,6 @@ pub fn zero_book() -> Book
         phase: 0,
         transaction: TransactionNumber(0),
     };
-    let free = Open {
-        number: TransactionNumber(0),
-        touched: 0,
-        ready: 0,
-        gave: 0,
-        decision: 0,
-    };
     let blank = zero_item();
     Book {
         last: TransactionNumber(0),
@@ -65,7 +58,7 @@ pub fn zero_book() -> Book
         records: [idle; DISTRICTS],
         count: 0,
         items: [blank; ITEMS],
-        open: [free; PLACES],
+        open: [FREE; PLACES],
     }
 }
 

@@ -1,7 +1,7 @@
 // What one reads off the tables of a book.
 ghost use mathlib.Core.Path.{_≡_};
 ghost use mathlib.Core.Bool.{true, false, not};
-ghost use Prim.Native.Nat.{ℕ, suc, _<_, _≤_};
+ghost use Prim.Native.Nat.{ℕ, _<_, _≤_};
 ghost use lib.Dec.{eqb};
 ghost use lib.ListN.{getD};
 ghost use Rattle.conditions.specs.Below.{any, first};
@@ -21,7 +21,6 @@ ghost use Rattle.book.specs.Book.{
 use crate::Item;
 use crate::Open;
 use crate::Record;
-use crate::sets::including;
 use conditions::Condition;
 use conditions::PLACES;
 use conditions::Place;
@@ -33,6 +32,15 @@ pub const DISTRICTS: usize = 8;
 
 pub const ITEMS: usize = 32;
 
+// A free place.
+pub(crate) const FREE: Open = Open {
+    number: TransactionNumber(0),
+    touched: 0,
+    ready: 0,
+    gave: 0,
+    decision: 0,
+};
+
 // All of a book but its items, and the set of the places that these depend on: what the tests of a
 // place and forgetting ask of a book, without the items themselves.
 pub struct Tables {
@@ -40,7 +48,7 @@ pub struct Tables {
     pub districts: usize,
     pub records: [Record; DISTRICTS],
     pub open: [Open; PLACES],
-    pub needed: u8,
+    pub depended: u8,
 }
 
 // The number of the transaction that a district with this record is on, 0 where it is idle.

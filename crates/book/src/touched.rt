@@ -58,7 +58,7 @@ pub(crate) fn some_busy(records: [Record; DISTRICTS], districts: usize, set: u8)
 }
 
 // The record of the district d when the districts of the set begin to compute.
-fn begun(r: Record, set: u8, d: usize, n: TransactionNumber) -> Record
+fn begun_record(r: Record, set: u8, d: usize, n: TransactionNumber) -> Record
     requires { ⌜ d < mostDistricts ⌝ }
     ensures { λ s. ⌜ s ≡ cond (member set d) (beginRecord (n .0)) r ⌝ }
 {
@@ -85,7 +85,7 @@ pub(crate) fn begun_records(
     let mut d: usize = 0;
     while d < districts {
         let r = now[d];
-        let s = begun(r, set, d, n);
+        let s = begun_record(r, set, d, n);
         now[d] = s;
         d += 1;
     }

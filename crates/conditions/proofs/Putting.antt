@@ -38,10 +38,7 @@ put-then {l} {m} {n} {at} {mid} {end} {s} {t} p q =
 pub put-length : {l m : List ℕ} {at end : ℕ} {t : List ℕ} → Put l m at end t → length m ≡ length l
 put-length {l} {m} {at} {end} {t} p = ap length (p .holds) ∙ length-sets l at t
 
--- one byte, within the buffer or past its end
-pub put-byte : (l : List ℕ) (at b : ℕ) → Put l (set l at b) at (at + 1) (b ∷ [])
-put-byte l at b = record { ends = refl; holds = refl }
-
+-- one byte past the buffer's end
 pub put-past : (l : List ℕ) (at b : ℕ) → length l ≤ at → Put l l at (at + 1) (b ∷ [])
 put-past l at b h = record { ends = refl; holds = sym (set-out l at b h) }
 

@@ -4,19 +4,7 @@ ghost use Prim.Native.Nat.{_*_};
 ghost use lib.Dec.{eqb};
 ghost use Rattle.conditions.specs.Sets.{digit, member, setOf};
 ghost use Rattle.conditions.specs.Places.{places};
-ghost use Rattle.conditions.specs.Conditions.{
-  number,
-  full,
-  union,
-  intersection,
-  complement,
-  empty,
-  lowest,
-  completed,
-  selected,
-  reduced,
-  dependsOn,
-};
+ghost use Rattle.conditions.specs.Conditions.{number, union, intersection, complement, empty, lowest, completed, selected, reduced, dependsOn};
 use crate::place::ASSIGNMENTS;
 use crate::place::PLACES;
 use crate::place::Place;

@@ -5,7 +5,7 @@ ghost use mathlib.Core.Bool.{true, false, _&&_};
 ghost use Prim.Native.Nat.{ℕ, suc, _+_, _<_, _≤_, _^_};
 ghost use Rattle.conditions.specs.Sets.{member, setOf};
 ghost use Rattle.conditions.specs.Places.{places};
-ghost use Rattle.conditions.specs.Conditions.{number, dependsOn};
+ghost use Rattle.conditions.specs.Conditions.{number};
 ghost use Rattle.conditions.specs.Products.{
   tagAt,
   agrees,

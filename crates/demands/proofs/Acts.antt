@@ -9,9 +9,8 @@ use Rattle.conditions.proofs.Laws.Below.{by-cases}
 use Rattle.conditions.specs.declared.place.TransactionNumber.{TransactionNumber}
 use Rattle.book.specs.declared.Book.{Book}
 use Rattle.book.specs.declared.Open.{Open}
-use Rattle.book.specs.Book.{noOpen, recordAt, itemAt, openAt, isOpen, placeOf, someDepends, someOn}
+use Rattle.book.specs.Book.{noOpen, recordAt, itemAt, openAt, isOpen, placeOf, someDepends, someOn, openOf}
 use Rattle.book.specs.Forget.{decided, needed, remembered, forget}
-use Rattle.book.specs.Transactions.{openOf}
 use Rattle.book.specs.Sound.{Sound}
 use Rattle.book.proofs.Laws.Rows.{getD-rows}
 use Rattle.book.proofs.Laws.Shaped.{Shaped}
@@ -21,7 +20,7 @@ use Rattle.book.proofs.Laws.Forgetting.{forget-open, forget-is-open}
 use Rattle.book.proofs.Laws.Calls.{Whole}
 use Rattle.demands.specs.Calls.{Call}
 use Rattle.demands.specs.Past.{asksBegin}
-use Rattle.demands.specs.Demands.{rowWith, rowAfter, Leaves}
+use Rattle.demands.specs.Demands.{rowWith, openAfter, Leaves}
 
 -- ---- what an accepted call leaves before it forgets
 
@@ -100,7 +99,7 @@ acts w b e c n o s v place number f last districts count opens = record {
 
 -- what such a call leaves, where it moves no item to another district
 pub acts-leaves : (w : ℕ) (b c : Book) (n : ℕ) (o : Open) (call : Call) → Acts w b c n o → asksBegin call ≡ false
-    → ((q : ℕ) → rowWith b (placeOf w b n) o q ≡ rowAfter w b call q) → ((i : ℕ) → i < b .count → itemAt c i .district ≡ itemAt b i .district) → Leaves w call b c
+    → ((q : ℕ) → rowWith b (placeOf w b n) o q ≡ openAfter w b call q) → ((i : ℕ) → i < b .count → itemAt c i .district ≡ itemAt b i .district) → Leaves w call b c
 acts-leaves w b c n o call act none row belongs = record {
   last = rw none (ap (λ (x : TransactionNumber). x .0) (act .last));
   districts = act .districts;

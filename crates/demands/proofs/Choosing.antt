@@ -16,11 +16,9 @@ use Rattle.polyvalues.specs.Polyvalues.{inUse}
 use Rattle.book.specs.declared.Book.{Book}
 use Rattle.book.specs.declared.Item.{Item}
 use Rattle.book.specs.Answers.{accepted}
-use Rattle.book.specs.Book.{recordAt, itemAt, itemOn, placeOf}
+use Rattle.book.specs.Book.{recordAt, itemAt, itemOn, placeOf, openOf}
 use Rattle.book.specs.Records.{computingOn, busyOn}
 use Rattle.book.specs.Items.{there}
-use Rattle.book.specs.Transactions.{openOf}
-use Rattle.book.specs.Sound.{itsOpen}
 use Rattle.book.specs.Begin.{heldAt}
 use Rattle.book.specs.Ready.{ready}
 use Rattle.book.specs.GiveUp.{giveUp}
@@ -85,7 +83,7 @@ module _ (w : ℕ) (b : Book) (t : Shaped w b) (g : ℕ → Bool) (a : ℕ) (s :
       notCompleted k z =
           let o = openOf w b n in
           let marks = row-marks w b _ past l n _ (give-up-acts w b t n d e) in
-          let its : itsOpen w b (recordAt b d) ≡ o = ap (openOf w b) (busy-is n (recordAt b d) (facts .on) .1) in
+          let its : openOf w b (recordAt b d .transaction .0) ≡ o = ap (openOf w b) (busy-is n (recordAt b d) (facts .on) .1) in
           let one : o .decision ≡ 1 = eqb-true (o .decision) 1 (sym (marks .completed) ∙ sym (ever-now past (said w b (givesUp n d)) (asksComplete n) e) ∙ z) in
           let touched : member (o .touched) d ≡ true = rw its at (facts .sound .busyTouched d (facts .district) (busy-is n (recordAt b d) (facts .on) .0)) in
           let ready = facts .sound .completedReady (placeOf w b n) (facts .place) (place-open w b n (facts .place)) one d (facts .district) touched in

@@ -13,10 +13,9 @@ use Rattle.book.specs.declared.Book.{Book}
 use Rattle.book.specs.declared.Item.{Item}
 use Rattle.book.specs.declared.Open.{Open}
 use Rattle.book.specs.Answers.{accepted}
-use Rattle.book.specs.Book.{recordAt, itemAt, openAt, isOpen, placeOf, someDepends, someOn}
+use Rattle.book.specs.Book.{recordAt, itemAt, openAt, isOpen, placeOf, someDepends, someOn, openOf}
 use Rattle.book.specs.Records.{computingOn}
 use Rattle.book.specs.Forget.{decided, needed}
-use Rattle.book.specs.Transactions.{openOf}
 use Rattle.book.specs.Ready.{reported}
 use Rattle.book.specs.GiveUp.{marked}
 use Rattle.book.specs.Begin.{heldAt}

@@ -9,11 +9,11 @@ use Rattle.conditions.proofs.Laws.Below.{by-cases}
 use Rattle.book.specs.declared.Book.{Book}
 use Rattle.book.specs.declared.Item.{Item}
 use Rattle.book.specs.Answers.{accepted}
-use Rattle.book.specs.Book.{recordAt, itemAt, recordOn, itemOn}
+use Rattle.book.specs.Book.{recordAt, itemAt, recordOn, itemOn, openOf}
 use Rattle.book.specs.Programs.{steps, touches}
 use Rattle.book.specs.Records.{computingOn, busyOn, hearRecord}
 use Rattle.book.specs.Items.{there, concerned, split, reduceItem}
-use Rattle.book.specs.Transactions.{openOf, done}
+use Rattle.book.specs.Transactions.{done}
 use Rattle.book.specs.Begin.{touchesDistrict, beginItem, begun, begin}
 use Rattle.book.specs.Ready.{ready}
 use Rattle.book.specs.GiveUp.{giveUpAnswer, giveUpItem, gaveUp, giveUp}

@@ -12,8 +12,7 @@ use Rattle.conditions.specs.declared.place.TransactionNumber.{TransactionNumber
 use Rattle.book.specs.declared.Book.{Book}
 use Rattle.book.specs.declared.Open.{Open}
 use Rattle.book.specs.Answers.{accepted}
-use Rattle.book.specs.Book.{openAt, isOpen, placeOf}
-use Rattle.book.specs.Transactions.{openOf}
+use Rattle.book.specs.Book.{openAt, isOpen, placeOf, openOf}
 use Rattle.book.proofs.Laws.But.{place-open}
 use Rattle.demands.specs.Calls.{Call, beginsWith, readies, givesUp, completes, aborts, hears, shows}
 use Rattle.demands.specs.Past.{Said, asksBegin, asksReady, asksComplete, asksAbort, ever, wasReady, wasCompleted, wasAborted, givesUpEarly, wasGivenUp, began}

@@ -13,12 +13,10 @@ use Rattle.book.specs.declared.Book.{Book}
 use Rattle.book.specs.declared.Open.{Open}
 use Rattle.book.specs.declared.Record.{Record}
 use Rattle.book.specs.Answers.{accepted}
-use Rattle.book.specs.Book.{mostDistricts, recordAt, openAt, isOpen, placeOf, freePlace}
+use Rattle.book.specs.Book.{mostDistricts, recordAt, openAt, isOpen, placeOf, freePlace, openOf}
 use Rattle.book.specs.Programs.{steps}
 use Rattle.book.specs.Records.{computingOn, waitingOn, busyOn}
 use Rattle.book.specs.Forget.{decided}
-use Rattle.book.specs.Transactions.{openOf}
-use Rattle.book.specs.Sound.{itsOpen}
 use Rattle.book.specs.Begin.{begin}
 use Rattle.book.specs.Ready.{reported, ready}
 use Rattle.book.specs.GiveUp.{marked, giveUp}
@@ -81,7 +79,7 @@ module _ (w : ℕ) (b : Book) (t : Shaped w b) (past : List Said) (l : Ledger w 
     facts = give-up-facts w b t n d e
 
     -- the district is on this transaction
-    itsRow : itsOpen w b (recordAt b d) ≡ o
+    itsRow : openOf w b (recordAt b d .transaction .0) ≡ o
     itsRow = ap (openOf w b) (busy-is n (recordAt b d) (facts .on) .1)
 
     wasReadyAs : wasReady past n d ≡ member (o .ready) d

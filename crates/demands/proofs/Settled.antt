@@ -21,7 +21,7 @@ use Rattle.book.specs.Forget.{needed, remembered}
 use Rattle.book.specs.Begin.{heldAt}
 use Rattle.book.proofs.Laws.Calls.{Whole}
 use Rattle.demands.specs.Calls.{Call}
-use Rattle.demands.specs.Demands.{pendingAt, Values, EachValue, Records, rowAfter, Leaves}
+use Rattle.demands.specs.Demands.{pendingAt, Values, EachValue, Records, openAfter, Leaves}
 
 -- two polyvalues that choose alike are one
 same-polyvalue : (w : ℕ) (p q : Polyvalue) → AllRows p → AllRows q → soundPolyvalue w p ≡ true → soundPolyvalue w q ≡ true
@@ -71,7 +71,7 @@ module _ (w : ℕ) (c : Call) (b x y : Book) (u : Whole w x) (v : Whole w y) (l 
   places : x .«open» ≡ y .«open»
   places = ext-getD noOpen (x .«open») (y .«open») (u .shaped .places ∙ sym (v .shaped .places)) (λ q h.
       let inside : q < w = rw (u .shaped .places) at h in
-      l .places q inside ∙ remembers q (rowAfter w b c q) ∙ sym (m .places q inside))
+      l .places q inside ∙ remembers q (openAfter w b c q) ∙ sym (m .places q inside))
 
   pub settled : x ≡ y
   settled =

@@ -6,7 +6,7 @@ use Rattle.book.specs.declared.Book.{Book}
 use Rattle.sheet.specs.declared.events.Event.{Event}
 use Rattle.sheet.specs.declared.events.Event.the-variants.{Begin, Ready, GiveUp, Complete, Abort, Hear, Show}
 use Rattle.sheet.specs.Open.{openSheet}
-use Rattle.sheet.specs.Play.{ofShow, outcome}
+use Rattle.sheet.specs.Play.{ofShow, eventResult}
 use Rattle.sheet.proofs.Laws.Open.{sheet-opens}
 use Rattle.sheet.proofs.Laws.Walk.{sheet-found, by-calls}
 use Rattle.demands.specs.Calls.{History, nothing, _then_, afterCalls}
@@ -21,7 +21,7 @@ on-sheets w s e =
 
 -- an event is the call that it asks for
 is-call : (w : ℕ) (b : Book) (s : List ℕ) (e : Event) → IsCall w b s e
-unfolding outcome ofShow
+unfolding eventResult ofShow
 is-call w b s (Begin from to) = record { answer = refl; more = refl; book = refl }
 is-call w b s (Ready n d) = record { answer = refl; more = refl; book = refl }
 is-call w b s (GiveUp n d) = record { answer = refl; more = refl; book = refl }

@@ -10,11 +10,11 @@ use Rattle.conditions.proofs.Laws.Below.{by-cases}
 use Rattle.book.specs.declared.Book.{Book}
 use Rattle.conditions.specs.declared.place.TransactionNumber.{TransactionNumber}
 use Rattle.book.specs.Answers.{accepted}
-use Rattle.book.specs.Book.{noRecord, recordAt, openAt, isOpen, placeOf, freePlace}
+use Rattle.book.specs.Book.{noRecord, recordAt, openAt, isOpen, placeOf, freePlace, openOf}
 use Rattle.book.specs.Programs.{steps}
 use Rattle.book.specs.Records.{computingOn, beginRecord, readyRecord, hearRecord}
 use Rattle.book.specs.Forget.{decided, needed, remembered}
-use Rattle.book.specs.Transactions.{openOf, done}
+use Rattle.book.specs.Transactions.{done}
 use Rattle.book.specs.Sound.{Sound}
 use Rattle.book.specs.Begin.{grant, touchesDistrict, begun, begin}
 use Rattle.book.specs.Ready.{readyAnswer, reported, readied, ready}
@@ -30,7 +30,7 @@ use Rattle.book.proofs.Laws.HearSound.{hear-shaped, hear-records, hear-but}
 use Rattle.book.proofs.Laws.BeginSound.{Begins, begin-shaped, begin-records, begin-opens, free-place, begin-but}
 use Rattle.book.proofs.Laws.Calls.{Whole, Readies, GivesUp, Completes, Aborts, Hears, done-accepted, begin-accepted, ready-tests, give-up-tests, complete-tests, abort-tests, hear-tests, begin-tests, ready-whole, give-up-whole, complete-whole, abort-whole, hear-whole, begin-whole}
 use Rattle.demands.specs.Calls.{beginsWith}
-use Rattle.demands.specs.Demands.{rowAfter}
+use Rattle.demands.specs.Demands.{openAfter}
 use Rattle.demands.proofs.Acts.{Left, left, Acts, acts}
 
 module _ (w : ℕ) (b : Book) (t : Shaped w b) where
@@ -199,10 +199,10 @@ module _ (w : ℕ) (b : Book) (t : Shaped w b) where
     begin-record d h = beginLeft .records d ∙ begin-records w b (begin-facts .0) t (steps bytes) (begin-facts .1) d h
 
     pub begin-places : (q : ℕ) → q < w → isOpen (openAt (begin w b bytes .book) q) ≡ true
-        → openAt (begin w b bytes .book) q ≡ rowAfter w b (beginsWith bytes) q
+        → openAt (begin w b bytes .book) q ≡ openAfter w b (beginsWith bytes) q
     begin-places q h k = beginLeft .opens q h k ∙ begin-opens w b (begin-facts .0) t (steps bytes) (begin-facts .1) q
 
-    pub begin-rows : (q : ℕ) → q < w → openAt (begin w b bytes .book) q ≡ remembered w (begin w b bytes .book) q (rowAfter w b (beginsWith bytes) q)
+    pub begin-rows : (q : ℕ) → q < w → openAt (begin w b bytes .book) q ≡ remembered w (begin w b bytes .book) q (openAfter w b (beginsWith bytes) q)
     begin-rows q h = beginLeft .rows q h ∙ ap (remembered w (begin w b bytes .book) q) (begin-opens w b (begin-facts .0) t (steps bytes) (begin-facts .1) q)
 
     -- no transaction that was open is forgotten but as it must be

@@ -19,7 +19,7 @@ use Rattle.polyvalues.specs.declared.polyvalue.Pair.{Pair}
 use Rattle.polyvalues.specs.Pairs.{at, hits, asked}
 use Rattle.polyvalues.specs.Asked.{askedAs, askedNumber}
 use Rattle.polyvalues.specs.Polyvalues.{Complete, WellFormed, inUse}
-use Rattle.polyvalues.specs.Polyvalues.{room as mostPairs}
+use Rattle.polyvalues.specs.Polyvalues.{mostPairs}
 use Rattle.polyvalues.specs.Operations.{reduce, select}
 use Rattle.book.specs.declared.Book.{Book}
 use Rattle.book.specs.declared.Open.{Open}
@@ -27,12 +27,12 @@ use Rattle.book.specs.declared.Opening.{Opening}
 use Rattle.book.specs.declared.Record.{Record}
 use Rattle.book.specs.declared.Step.{Step}
 use Rattle.book.specs.Answers.{answerNumber, accepted}
-use Rattle.book.specs.Book.{mostDistricts, lastNumber, noRecord, noBook, recordAt, itemAt, openAt, idle, isOpen, placeOf, freePlace, someDepends, someOn}
+use Rattle.book.specs.Book.{mostDistricts, lastNumber, noRecord, noBook, recordAt, itemAt, openAt, idle, isOpen, placeOf, freePlace, someDepends, someOn, openOf}
 use Rattle.book.specs.Programs.{steps, run, touches}
 use Rattle.book.specs.Items.{there}
 use Rattle.book.specs.Records.{computingOn, busyOn, beginRecord, readyRecord, hearRecord}
 use Rattle.book.specs.Forget.{decided, remembered}
-use Rattle.book.specs.Transactions.{unsound, notOpen, noDistrict, openOf}
+use Rattle.book.specs.Transactions.{unsound, notOpen, noDistrict}
 use Rattle.book.specs.Open.{goodOpening, opened}
 use Rattle.book.specs.Sound.{Sound}
 use Rattle.book.specs.SoundTest.{sound}
@@ -168,14 +168,14 @@ abbrev pub rowWith : Book → ℕ → Open → ℕ → Open
 rowWith b p o q = cond (eqb q p) o (openAt b q)
 
 -- the row at place q after a call, before it forgets: a transaction begins at "the lowest free" place; each event on one changes its row alone
-abbrev pub rowAfter : ℕ → Book → Call → ℕ → Open
-rowAfter w b (beginsWith bytes) = rowWith b (freePlace w b) (newRow b (steps bytes))
-rowAfter w b (readies n d) = rowWith b (placeOf w b n) (reported d (openOf w b n))
-rowAfter w b (givesUp n d) = rowWith b (placeOf w b n) (cond (computingOn n (recordAt b d)) (marked d (openOf w b n)) (openOf w b n))
-rowAfter w b (completes n) = rowWith b (placeOf w b n) (withDecision 1 (openOf w b n))
-rowAfter w b (aborts n) = rowWith b (placeOf w b n) (withDecision 2 (openOf w b n))
-rowAfter w b (hears n d) = openAt b
-rowAfter w b (shows i buf) = openAt b
+abbrev pub openAfter : ℕ → Book → Call → ℕ → Open
+openAfter w b (beginsWith bytes) = rowWith b (freePlace w b) (newRow b (steps bytes))
+openAfter w b (readies n d) = rowWith b (placeOf w b n) (reported d (openOf w b n))
+openAfter w b (givesUp n d) = rowWith b (placeOf w b n) (cond (computingOn n (recordAt b d)) (marked d (openOf w b n)) (openOf w b n))
+openAfter w b (completes n) = rowWith b (placeOf w b n) (withDecision 1 (openOf w b n))
+openAfter w b (aborts n) = rowWith b (placeOf w b n) (withDecision 2 (openOf w b n))
+openAfter w b (hears n d) = openAt b
+openAfter w b (shows i buf) = openAt b
 
 -- what an accepted call leaves besides values and records: no district or item is added or moved, and each place has its row, or is freed where "Forgetting" says so
 pub record Leaves (w : ℕ) (c : Call) (b after : Book) : Type 0 where
@@ -183,7 +183,7 @@ pub record Leaves (w : ℕ) (c : Call) (b after : Book) : Type 0 where
   pub districts : after .districts ≡ b .districts
   pub count : after .count ≡ b .count
   pub belongs : (i : ℕ) → i < b .count → itemAt after i .district ≡ itemAt b i .district
-  pub places : (q : ℕ) → q < w → openAt after q ≡ remembered w after q (rowAfter w b c q)
+  pub places : (q : ℕ) → q < w → openAt after q ≡ remembered w after q (openAfter w b c q)
 
 -- the transaction at place q is decided, before the call c or by it
 abbrev pub isDecided : Book → Call → ℕ → Bool

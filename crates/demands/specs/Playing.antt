@@ -11,7 +11,7 @@ use Rattle.book.specs.Show.{heldLine}
 use Rattle.sheet.specs.declared.events.Event.{Event}
 use Rattle.sheet.specs.declared.events.Event.the-variants.{Begin, Ready, GiveUp, Complete, Abort, Hear, Show}
 use Rattle.sheet.specs.Lines.{lentRoom}
-use Rattle.sheet.specs.Play.{outcome}
+use Rattle.sheet.specs.Play.{eventResult}
 use Rattle.demands.specs.Calls.{Call, beginsWith, readies, givesUp, completes, aborts, hears, shows, answerTo, numberGiven, bookAfter, History, nothing, _then_}
 
 -- the call that an event of the sheet s asks for: a begin's steps stand in the sheet, and show is lent 65,536 bytes (zeros here: its answer asks only how many they are)
@@ -36,14 +36,14 @@ moreOf w b (shows i buf) = heldLine w b i ∷ []
 
 -- what the program makes of an event on the book b is what that call makes of it: the answer in its line, what stands after it, and the book that the next event takes
 pub record IsCall (w : ℕ) (b : Book) (s : List ℕ) (e : Event) : Type 0 where
-  pub answer : outcome w b s e .answer ≡ answerTo w b (callOf s e)
-  pub more : outcome w b s e .more ≡ moreOf w b (callOf s e)
-  pub book : outcome w b s e .book ≡ bookAfter w b (callOf s e)
+  pub answer : eventResult w b s e .answer ≡ answerTo w b (callOf s e)
+  pub more : eventResult w b s e .more ≡ moreOf w b (callOf s e)
+  pub book : eventResult w b s e .book ≡ bookAfter w b (callOf s e)
 
 -- the book that the program has once it has played these events of the sheet s, from the book b on
 abbrev pub bookPlayed : ℕ → Book → List ℕ → List Event → Book
 bookPlayed w b s [] = b
-bookPlayed w b s (e ∷ es) = bookPlayed w (outcome w b s e .book) s es
+bookPlayed w b s (e ∷ es) = bookPlayed w (eventResult w b s e .book) s es
 
 -- a history, and then the calls of these events
 abbrev pub thenEvents : List ℕ → History → List Event → History

@@ -19,7 +19,7 @@ use Rattle.polyvalues.specs.declared.polyvalue.Pair.{Pair}
 use Rattle.polyvalues.specs.declared.polyvalue.Polyvalue.{Polyvalue}
 use Rattle.polyvalues.specs.Values.{inRange, below}
 use Rattle.polyvalues.specs.Pairs.{noPair, blank, assignments, hits}
-use Rattle.polyvalues.specs.Polyvalues.{each, risesFrom, rises, ofPlaces, proper, room, rowsOf, inUse, wellFormed}
+use Rattle.polyvalues.specs.Polyvalues.{each, risesFrom, rises, ofPlaces, proper, mostPairs, rowsOf, inUse, wellFormed}
 use Rattle.polyvalues.specs.Checked.{belowAll, rowFits, checkedFrom}
 use Rattle.polyvalues.proofs.Laws.Cover.{covers, covers-test}
 use Rattle.polyvalues.proofs.Joining.{in-use-row}
@@ -121,7 +121,7 @@ some-rows : (w : ℕ) (ps : List Pair) → checkedFrom w belowAll 0 ps ≡ true 
 some-rows w [] e = absurd (true≢false (sym e ∙ none-checked w))
 some-rows w (p ∷ ps) e = omega arith
 
-pub checked-well-formed : (w : ℕ) (ps : List Pair) → each (ofPlaces w) ps ≡ true → length ps ≤ room → checkedFrom w belowAll 0 ps ≡ wellFormed w ps
+pub checked-well-formed : (w : ℕ) (ps : List Pair) → each (ofPlaces w) ps ≡ true → length ps ≤ mostPairs → checkedFrom w belowAll 0 ps ≡ wellFormed w ps
 unfolding wellFormed
 checked-well-formed w ps o few =
     by-cases (checkedFrom w belowAll 0 ps)
@@ -129,13 +129,13 @@ checked-well-formed w ps o few =
     let c = checked-true w belowAll 0 ps e in
     e ∙ sym (ap₂ _&&_ (ap₂ _&&_ (ap₂ _&&_ (ap₂ _&&_ (ap₂ _&&_
     (rises-from ps (c .ranged) ∙ c .rising) (proper-filled w ps o ∙ c .full-rows)) (sym (covers-test w ps) ∙ c .covering))
-    (le-leb 1 (length ps) (some-rows w ps e))) (le-leb (length ps) room few)) (c .ranged)))
+    (le-leb 1 (length ps) (some-rows w ps e))) (le-leb (length ps) mostPairs few)) (c .ranged)))
     (λ e. by-cases (wellFormed w ps) (λ f. absurd (true≢false (sym (back f) ∙ e))) (λ f. e ∙ sym f))
   where
     back : wellFormed w ps ≡ true → checkedFrom w belowAll 0 ps ≡ true
     back f =
-        let ranged = and-right (rises ps && each (proper w) ps && all (2 ^ w) (λ a. eqb (hits ps a) 1) && leb 1 (length ps) && leb (length ps) room) _ f in
-        let few-rows = and-left (rises ps && each (proper w) ps && all (2 ^ w) (λ a. eqb (hits ps a) 1) && leb 1 (length ps) && leb (length ps) room) _ f in
+        let ranged = and-right (rises ps && each (proper w) ps && all (2 ^ w) (λ a. eqb (hits ps a) 1) && leb 1 (length ps) && leb (length ps) mostPairs) _ f in
+        let few-rows = and-left (rises ps && each (proper w) ps && all (2 ^ w) (λ a. eqb (hits ps a) 1) && leb 1 (length ps) && leb (length ps) mostPairs) _ f in
         let some = and-left (rises ps && each (proper w) ps && all (2 ^ w) (λ a. eqb (hits ps a) 1) && leb 1 (length ps)) _ few-rows in
         let once = and-left (rises ps && each (proper w) ps && all (2 ^ w) (λ a. eqb (hits ps a) 1)) _ some in
         let rows = and-left (rises ps && each (proper w) ps) _ once in

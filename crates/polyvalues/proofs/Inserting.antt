@@ -19,7 +19,7 @@ use Rattle.polyvalues.specs.declared.polyvalue.Polyvalue.{Polyvalue}
 use Rattle.polyvalues.specs.declared.polyvalue.Joined.{Joined}
 use Rattle.polyvalues.specs.Values.{below, equal}
 use Rattle.polyvalues.specs.Pairs.{pair, assignments, noPair, certain}
-use Rattle.polyvalues.specs.Polyvalues.{room, paired, rowsOf, inUse, padded, packed, fitted}
+use Rattle.polyvalues.specs.Polyvalues.{mostPairs, paired, rowsOf, inUse, padded, packed, fitted}
 use Rattle.polyvalues.specs.Simplify.{insert}
 use Rattle.polyvalues.specs.Rows.{valueAt, PlaceOf, hasAt, carried, moved}
 use Rattle.polyvalues.proofs.Laws.Values.{equal-true, below-else}
@@ -40,19 +40,19 @@ packed-is ps {vs = vs} {cs = cs} e l f =
     let conditions : cs ≡ map (λ p. p .condition) (padded ps) = sym (conditions-paired vs cs l) ∙ ap (map (λ p. p .condition)) f in
     λ i. record { count = e i; values = values i; conditions = conditions i }
 
-pub fitted-yes : (q : Polyvalue) (ps : List Pair) → length ps ≤ room → fitted q ps ≡ record { fits = true; polyvalue = packed ps }
+pub fitted-yes : (q : Polyvalue) (ps : List Pair) → length ps ≤ mostPairs → fitted q ps ≡ record { fits = true; polyvalue = packed ps }
 unfolding fitted
-fitted-yes q ps h = rw (le-leb (length ps) room h)
+fitted-yes q ps h = rw (le-leb (length ps) mostPairs h)
 
-pub fitted-no : (q : Polyvalue) (ps : List Pair) → room < length ps → fitted q ps ≡ record { fits = false; polyvalue = q }
+pub fitted-no : (q : Polyvalue) (ps : List Pair) → mostPairs < length ps → fitted q ps ≡ record { fits = false; polyvalue = q }
 unfolding fitted
-fitted-no q ps h = rw (lt-leb (length ps) room h)
+fitted-no q ps h = rw (lt-leb (length ps) mostPairs h)
 
 pub in-use-length : (q : Polyvalue) → length (inUse q) ≡ min (q .count) (length (rowsOf q))
 unfolding inUse
 in-use-length q = length-take (q .count) (rowsOf q)
 
-pub in-use-le : (q : Polyvalue) → length (rowsOf q) ≡ room → length (inUse q) ≤ room
+pub in-use-le : (q : Polyvalue) → length (rowsOf q) ≡ mostPairs → length (inUse q) ≤ mostPairs
 in-use-le q l = omega (arith, in-use-length q)
 
 -- a polyvalue whose rows past the count are zero
@@ -83,27 +83,27 @@ carried-zero : (p z : Pair) (ps zs : List Pair) → carried (suc (length ps)) p 
 carried-zero p z [] zs = refl
 carried-zero p z (q ∷ ps) zs = ap (λ (l : List Pair). p ∷ l) (carried-zero q z ps zs)
 
-moved-rows : (ps : List Pair) (k : ℕ) (p : Pair) → k ≤ length ps → length ps < room
-    → moved k (length ps) p (ps ++ replicate (room - length ps) noPair)
-    ≡ (take k ps ++ p ∷ drop k ps) ++ replicate (room - suc (length ps)) noPair
+moved-rows : (ps : List Pair) (k : ℕ) (p : Pair) → k ≤ length ps → length ps < mostPairs
+    → moved k (length ps) p (ps ++ replicate (mostPairs - length ps) noPair)
+    ≡ (take k ps ++ p ∷ drop k ps) ++ replicate (mostPairs - suc (length ps)) noPair
 moved-rows ps k p h l =
-    let zeros : room - length ps ≡ suc (room - suc (length ps)) = omega arith in
+    let zeros : mostPairs - length ps ≡ suc (mostPairs - suc (length ps)) = omega arith in
     let rest : suc (length ps) - k ≡ suc (length (drop k ps)) = omega (arith, length-drop k ps) in
     rw (
       zeros,
-      take-append-le k ps (noPair ∷ replicate (room - suc (length ps)) noPair) h,
-      drop-append-le k ps (noPair ∷ replicate (room - suc (length ps)) noPair) h,
+      take-append-le k ps (noPair ∷ replicate (mostPairs - suc (length ps)) noPair) h,
+      drop-append-le k ps (noPair ∷ replicate (mostPairs - suc (length ps)) noPair) h,
       rest,
-      carried-zero p noPair (drop k ps) (replicate (room - suc (length ps)) noPair),
+      carried-zero p noPair (drop k ps) (replicate (mostPairs - suc (length ps)) noPair),
     )
-    (sym (append-assoc (take k ps) (p ∷ drop k ps) (replicate (room - suc (length ps)) noPair)))
+    (sym (append-assoc (take k ps) (p ∷ drop k ps) (replicate (mostPairs - suc (length ps)) noPair)))
 
 length-new : (ps : List Pair) (k : ℕ) (p : Pair) → k ≤ length ps → length (take k ps ++ p ∷ drop k ps) ≡ suc (length ps)
 length-new ps k p h = omega (arith, length-append (take k ps) (p ∷ drop k ps), length-take k ps, length-drop k ps)
 
 -- ---- a pair inserted at the first row whose value is not below its own
 
-module _ (w : ℕ) (q : Polyvalue) (new : Pair) (k : ℕ) (tidy : q ≡ packed (inUse q)) (few : length (inUse q) ≤ room) (place : PlaceOf q (new .value) k) where
+module _ (w : ℕ) (q : Polyvalue) (new : Pair) (k : ℕ) (tidy : q ≡ packed (inUse q)) (few : length (inUse q) ≤ mostPairs) (place : PlaceOf q (new .value) k) where
   within : k ≤ length (inUse q)
   within = omega (arith, place .within, tidy-count q tidy)
 
@@ -142,13 +142,13 @@ module _ (w : ℕ) (q : Polyvalue) (new : Pair) (k : ℕ) (tidy : q ≡ packed (
       ap (λ (p : Pair). below (new .value) (p .value)) (sym row) ∙ below-else (valueAt q k) (new .value) (place .stops l) apart)
 
   -- a value that no row has, and no room for it
-  pub inserted-none : hasAt q k (new .value) ≡ false → room ≤ q .count
+  pub inserted-none : hasAt q k (new .value) ≡ false → mostPairs ≤ q .count
       → record { fits = false; polyvalue = q } ≡ fitted q (insert w (new .value) (assignments new) (inUse q))
   inserted-none has full =
       rw (result-new has) (sym (fitted-no q _ (omega (arith, length-new (inUse q) k new within, tidy-count q tidy))))
 
   -- and room for it
-  pub inserted-new : {rows : Polyvalue} → AllRows rows → hasAt q k (new .value) ≡ false → q .count < room → rowsOf rows ≡ moved k (q .count) new (rowsOf q)
+  pub inserted-new : {rows : Polyvalue} → AllRows rows → hasAt q k (new .value) ≡ false → q .count < mostPairs → rowsOf rows ≡ moved k (q .count) new (rowsOf q)
       → _≡_ {A = Joined} (record { fits = true; polyvalue = record { count = q .count + 1; values = rows .values; conditions = rows .conditions } })
       (fitted q (insert w (new .value) (assignments new) (inUse q)))
   inserted-new all has space is =
@@ -158,7 +158,7 @@ module _ (w : ℕ) (q : Polyvalue) (new : Pair) (k : ℕ) (tidy : q ≡ packed (
       (ap (λ (r : Polyvalue). record { fits = true; polyvalue = r })
       (packed-is (take k (inUse q) ++ new ∷ drop k (inUse q)) (omega arith) (all .values ∙ sym (all .conditions))
       (is ∙ ap₂ (λ (n : ℕ) (l : List Pair). moved k n new l) count (tidy-rows q tidy) ∙ moved-rows (inUse q) k new within (omega arith)
-      ∙ ap (λ (n : ℕ). (take k (inUse q) ++ new ∷ drop k (inUse q)) ++ replicate (room - n) noPair) (sym long))))
+      ∙ ap (λ (n : ℕ). (take k (inUse q) ++ new ∷ drop k (inUse q)) ++ replicate (mostPairs - n) noPair) (sym long))))
 
 -- ---- no pairs, and one
 
@@ -184,13 +184,13 @@ zeros-more n i ps h l =
     rw (drop-cons ps i noPair l, set-at (take n ps ++ replicate (i - n) noPair) (getD ps i noPair) (drop (suc i) ps) noPair i long, e, ← replicate-append-replicate (i - n) 1 noPair)
     (simp append-assoc)
 
-pub zeros-all : (q : Polyvalue) (n : ℕ) {vs : List ℤ} {cs : List Condition} → length (rowsOf q) ≡ room → n ≡ length (inUse q) → n ≤ room → length vs ≡ length cs
-    → paired vs cs ≡ take n (rowsOf q) ++ replicate (room - n) noPair ++ drop room (rowsOf q) → record { count = n; values = vs; conditions = cs } ≡ packed (inUse q)
+pub zeros-all : (q : Polyvalue) (n : ℕ) {vs : List ℤ} {cs : List Condition} → length (rowsOf q) ≡ mostPairs → n ≡ length (inUse q) → n ≤ mostPairs → length vs ≡ length cs
+    → paired vs cs ≡ take n (rowsOf q) ++ replicate (mostPairs - n) noPair ++ drop mostPairs (rowsOf q) → record { count = n; values = vs; conditions = cs } ≡ packed (inUse q)
 unfolding inUse
 zeros-all q n l e h even f =
     packed-is (take (q .count) (rowsOf q)) e even
-    (f ∙ ap (λ (z : List Pair). take n (rowsOf q) ++ replicate (room - n) noPair ++ z) (drop-of-length-le (rowsOf q) {i = room} (omega arith))
-    ∙ append-nil _ ∙ ap₂ (λ (x : List Pair) (k : ℕ). x ++ replicate (room - k) noPair) (same-take (q .count) n (rowsOf q) e) e)
+    (f ∙ ap (λ (z : List Pair). take n (rowsOf q) ++ replicate (mostPairs - n) noPair ++ z) (drop-of-length-le (rowsOf q) {i = mostPairs} (omega arith))
+    ∙ append-nil _ ∙ ap₂ (λ (x : List Pair) (k : ℕ). x ++ replicate (mostPairs - k) noPair) (same-take (q .count) n (rowsOf q) e) e)
   where
     same-take : (k n : ℕ) (ps : List Pair) → n ≡ length (take k ps) → take n ps ≡ take k ps
     same-take k n ps e = by-cases (leb k (length ps))

@@ -19,7 +19,7 @@ use Rattle.polyvalues.specs.declared.polyvalue.Polyvalue.{Polyvalue}
 use Rattle.polyvalues.specs.declared.polyvalue.Joined.{Joined}
 use Rattle.polyvalues.specs.declared.operations.Cut.the-variants.{Reduced, Completed, Aborted}
 use Rattle.polyvalues.specs.Pairs.{pair, assignments, noPair, applies, depends, applying}
-use Rattle.polyvalues.specs.Polyvalues.{room, rowsOf, inUse, packed, fitted}
+use Rattle.polyvalues.specs.Polyvalues.{mostPairs, rowsOf, inUse, packed, fitted}
 use Rattle.polyvalues.specs.Simplify.{join, simplifiedFrom, simplified}
 use Rattle.polyvalues.specs.Operations.{cut, changed, reduce, select}
 use Rattle.polyvalues.proofs.Laws.Simplify.{grows-from, length-simplified}
@@ -36,17 +36,17 @@ packed-again ps e = e ∙ ap packed (sym (ap inUse e ∙ inUse-packed ps))
 pub packed-in-use : (ps : List Pair) {q : Polyvalue} → q ≡ packed ps → inUse q ≡ ps
 packed-in-use ps e = ap inUse e ∙ inUse-packed ps
 
-pub fits-yes : (q : Polyvalue) (ps : List Pair) {r : Joined} → r ≡ fitted q ps → r .fits ≡ true → (r .polyvalue ≡ packed ps) × (length ps ≤ room)
+pub fits-yes : (q : Polyvalue) (ps : List Pair) {r : Joined} → r ≡ fitted q ps → r .fits ≡ true → (r .polyvalue ≡ packed ps) × (length ps ≤ mostPairs)
 fits-yes q ps {r} e t =
-    by-cases (leb (length ps) room)
-    (λ l. let few : length ps ≤ room = leb-true (length ps) room l in (ap (λ (j : Joined). j .polyvalue) (e ∙ fitted-yes q ps few), few))
-    (λ l. absurd (true≢false (sym t ∙ ap (λ (j : Joined). j .fits) (e ∙ fitted-no q ps (leb-false (length ps) room l)))))
+    by-cases (leb (length ps) mostPairs)
+    (λ l. let few : length ps ≤ mostPairs = leb-true (length ps) mostPairs l in (ap (λ (j : Joined). j .polyvalue) (e ∙ fitted-yes q ps few), few))
+    (λ l. absurd (true≢false (sym t ∙ ap (λ (j : Joined). j .fits) (e ∙ fitted-no q ps (leb-false (length ps) mostPairs l)))))
 
-pub fits-no : (q : Polyvalue) (ps : List Pair) {r : Joined} → r ≡ fitted q ps → r .fits ≡ false → room < length ps
+pub fits-no : (q : Polyvalue) (ps : List Pair) {r : Joined} → r ≡ fitted q ps → r .fits ≡ false → mostPairs < length ps
 fits-no q ps {r} e t =
-    by-cases (leb (length ps) room)
-    (λ l. absurd (true≢false (sym (ap (λ (j : Joined). j .fits) (e ∙ fitted-yes q ps (leb-true (length ps) room l))) ∙ t)))
-    (λ l. leb-false (length ps) room l)
+    by-cases (leb (length ps) mostPairs)
+    (λ l. absurd (true≢false (sym (ap (λ (j : Joined). j .fits) (e ∙ fitted-yes q ps (leb-true (length ps) mostPairs l))) ∙ t)))
+    (λ l. leb-false (length ps) mostPairs l)
 
 -- an answer that rests on another polyvalue: the same where it fits, and where not, the one that was handed in
 pub refit-yes : (q t : Polyvalue) (ps : List Pair) {r : Joined} → r ≡ fitted t ps → r .fits ≡ true → r ≡ fitted q ps
@@ -114,7 +114,7 @@ applying-done rows a i h = rw (drop-of-length-le rows h)
 -- ---- reduce and select
 
 module _ (w i : ℕ) {n : Polyvalue} (empty : n ≡ packed []) where
-  pub reduced-rows : (b : Bool) (q : Polyvalue) {r : Joined} → length (inUse q) ≤ room
+  pub reduced-rows : (b : Bool) (q : Polyvalue) {r : Joined} → length (inUse q) ≤ mostPairs
       → r ≡ fitted n (simplifiedFrom w (inUse n) (changed (cut w i (Reduced b)) (inUse q))) → r .polyvalue ≡ packed (reduce w i b (inUse q))
   unfolding reduce simplified
   reduced-rows b q few e =
@@ -122,7 +122,7 @@ module _ (w i : ℕ) {n : Polyvalue} (empty : n ≡ packed []) where
       ap (λ (done : List Pair). simplifiedFrom w done (changed (cut w i (Reduced b)) (inUse q))) (packed-in-use [] empty) in
       ap (λ (j : Joined). j .polyvalue) (e ∙ ap (fitted n) is ∙ fitted-yes n (reduce w i b (inUse q)) (omega (arith, reduce-count w i b (inUse q))))
 
-  pub completed-rows : (done : Polyvalue) {r : Joined} → length (inUse done) ≤ room
+  pub completed-rows : (done : Polyvalue) {r : Joined} → length (inUse done) ≤ mostPairs
       → r ≡ fitted n (simplifiedFrom w (inUse n) (changed (cut w i Completed) (inUse done)))
       → r .polyvalue ≡ packed (simplified w (changed (cut w i Completed) (inUse done)))
   unfolding simplified
@@ -156,14 +156,14 @@ module _ (w : ℕ) (f : ℕ → ℕ) (done rows : Polyvalue) (i : ℕ) (target :
       ∙ sym (rows-more w f (inUse done) rows i at more) ∙ left
 
   pub turn-fits : r .fits ≡ true
-      → (r .polyvalue ≡ packed (inUse (r .polyvalue))) × (length (inUse (r .polyvalue)) ≤ room)
+      → (r .polyvalue ≡ packed (inUse (r .polyvalue))) × (length (inUse (r .polyvalue)) ≤ mostPairs)
       × (simplifiedFrom w (inUse (r .polyvalue)) (changed f (drop (suc i) (inUse rows))) ≡ target)
   turn-fits t =
       let yes′ = fits-yes done (join w (new .value) (assignments new) (inUse done)) e t in
       let same : inUse (r .polyvalue) ≡ join w (new .value) (assignments new) (inUse done) = packed-in-use _ (yes′ .0) in
       (packed-again _ (yes′ .0), rw same (yes′ .1), rw same after)
 
-  pub turn-full : r .fits ≡ false → room < length target
+  pub turn-full : r .fits ≡ false → mostPairs < length target
   turn-full t =
       omega (
         arith,

@@ -17,7 +17,7 @@ use borrow.Author.Tests.{lt-ltb}
 use Rattle.conditions.specs.declared.condition.Condition.{Condition}
 use Rattle.conditions.specs.Places.{places}
 use Rattle.conditions.proofs.Laws.Below.{and-left, and-right}
-use Rattle.polyvalues.specs.Polyvalues.{each, ofPlaces, room, paired, rowsOf, inUse}
+use Rattle.polyvalues.specs.Polyvalues.{each, ofPlaces, mostPairs, paired, rowsOf, inUse}
 use Rattle.conditions.proofs.condition.Condition as TCondition
 use Rattle.polyvalues.proofs.Laws.Paired.{AllRows, rows-long}
 use Rattle.polyvalues.proofs.polyvalue.Polyvalue as TPolyvalue
@@ -30,7 +30,7 @@ pub record Held (q : Polyvalue) : Type 0 where
 pub all-rows : {q : Polyvalue} → Held q → AllRows q
 all-rows {q} h = record { values = sym (length-map (q .values) _) ∙ h .own .1 .1 .1 .0 .1 .0 .1; conditions = sym (length-map (q .conditions) (TCondition.the-field .into)) ∙ h .own .1 .1 .1 .1 .0 .1 .0 .1 }
 
-pub held-long : {q : Polyvalue} → Held q → length (rowsOf q) ≡ room
+pub held-long : {q : Polyvalue} → Held q → length (rowsOf q) ≡ mostPairs
 held-long h = rows-long (all-rows h)
 
 -- each value is one of 16 bits

@@ -45,9 +45,17 @@ different (p ∷ ps) = digit (not (occurs (p .value) ps)) + different ps
 unfoldable pub together : List Pair → List Pair → ℕ
 together ps qs = different (ps ++ qs)
 
+-- two lists are the same, row by row
+abbrev pub sameRows : {A : Type 0} → (A → A → Bool) → List A → List A → Bool
+sameRows f [] [] = true
+sameRows f [] (y ∷ ys) = false
+sameRows f (x ∷ xs) [] = false
+sameRows f (x ∷ xs) (y ∷ ys) = f x y && sameRows f xs ys
+
+-- two pairs are the same
+abbrev pub samePair : Pair → Pair → Bool
+samePair p q = equal (p .value) (q .value) && eqb (assignments p) (assignments q)
+
 -- two lists are the same pairs
 abbrev pub same : List Pair → List Pair → Bool
-same [] [] = true
-same [] (q ∷ qs) = false
-same (p ∷ ps) [] = false
-same (p ∷ ps) (q ∷ qs) = equal (p .value) (q .value) && eqb (assignments p) (assignments q) && same ps qs
+same = sameRows samePair

@@ -49,31 +49,31 @@ pub record Complete (w : ℕ) (ps : List Pair) : Type 0 where
   pub once : (a : ℕ) → a < 2 ^ w → hits ps a ≡ 1
 
 -- how many pairs a polyvalue has room for
-abbrev pub room : ℕ
-room = 8
+abbrev pub mostPairs : ℕ
+mostPairs = 8
 
 -- the pairs of a polyvalue of w places
 pub record WellFormed (w : ℕ) (ps : List Pair) : Type 0 where
   pub complete : Complete w ps
   pub some : 1 ≤ length ps
-  pub few : length ps ≤ room
+  pub few : length ps ≤ mostPairs
   pub values : each (λ p. inRange (p .value)) ps ≡ true
 
 -- the same as a test
 unfoldable pub wellFormed : ℕ → List Pair → Bool
 wellFormed w ps =
     rises ps && each (proper w) ps && all (2 ^ w) (λ a. eqb (hits ps a) 1)
-    && leb 1 (length ps) && leb (length ps) room && each (λ p. inRange (p .value)) ps
+    && leb 1 (length ps) && leb (length ps) mostPairs && each (λ p. inRange (p .value)) ps
 
 -- ---- as the code keeps it: any count and any rows may be handed in
 
--- values and their conditions, row by row
+-- values and their conditions, row by row, as far as both go
 abbrev pub paired : List ℤ → List Condition → List Pair
 paired [] cs = []
 paired (v ∷ vs) [] = []
 paired (v ∷ vs) (c ∷ cs) = record { value = v; condition = c } ∷ paired vs cs
 
--- its rows
+-- a polyvalue's rows, those past the count too
 abbrev pub rowsOf : Polyvalue → List Pair
 rowsOf q = paired (q .values) (q .conditions)
 
@@ -87,11 +87,11 @@ tidy q = each blank (drop (q .count) (rowsOf q))
 
 -- the count is one that there is room for, and what counts is well formed
 unfoldable pub sound : ℕ → Polyvalue → Bool
-sound w q = leb (q .count) room && (tidy q && wellFormed w (inUse q))
+sound w q = leb (q .count) mostPairs && (tidy q && wellFormed w (inUse q))
 
 -- these pairs, and rows of zeros past them
 abbrev pub padded : List Pair → List Pair
-padded ps = ps ++ replicate (room - length ps) noPair
+padded ps = ps ++ replicate (mostPairs - length ps) noPair
 
 -- the polyvalue of these pairs, if there is room for them
 unfoldable pub packed : List Pair → Polyvalue
@@ -99,4 +99,4 @@ packed ps = record { count = length ps; values = map (λ p. p .value) (padded ps
 
 -- as the code answers where there may be too little room: these pairs, or the polyvalue q as it was
 unfoldable pub fitted : Polyvalue → List Pair → Joined
-fitted q ps = cond (leb (length ps) room) (record { fits = true; polyvalue = packed ps }) (record { fits = false; polyvalue = q })
+fitted q ps = cond (leb (length ps) mostPairs) (record { fits = true; polyvalue = packed ps }) (record { fits = false; polyvalue = q })

@@ -9,7 +9,7 @@ ghost use lib.ListN.{length, drop, getD};
 ghost use Rattle.conditions.specs.Sets.{digit};
 ghost use Rattle.polyvalues.specs.Values.{equal};
 ghost use Rattle.polyvalues.specs.Pairs.{assignments, noPair};
-ghost use Rattle.polyvalues.specs.Polyvalues.{room, inUse};
+ghost use Rattle.polyvalues.specs.Polyvalues.{mostPairs, inUse};
 ghost use Rattle.polyvalues.specs.Operations.{occurs, different, together, same};
 use crate::polyvalue::Pair;
 use crate::polyvalue::Polyvalue;
@@ -83,7 +83,7 @@ impl Polyvalue {
     // How many values it adds to those of the other polyvalue.
     fn fresh(self, other: Polyvalue) -> usize
         ensures { λ r. ⌜ r + different (inUse other) ≡ together (inUse self) (inUse other) ⌝ }
-        ensures { λ r. ⌜ r ≤ room ⌝ }
+        ensures { λ r. ⌜ r ≤ mostPairs ⌝ }
     {
         let n = self.len();
         let mut count: usize = 0;

@@ -6,7 +6,7 @@ ghost use lib.ListN.{length, getD};
 ghost use Rattle.conditions.specs.Places.{places};
 ghost use Rattle.polyvalues.specs.Values.{below, equal};
 ghost use Rattle.polyvalues.specs.Pairs.{noPair, certain};
-ghost use Rattle.polyvalues.specs.Polyvalues.{room, rowsOf, inUse, packed};
+ghost use Rattle.polyvalues.specs.Polyvalues.{mostPairs, rowsOf, inUse, packed};
 use crate::value::below;
 use crate::value::equal;
 use conditions::Condition;
@@ -69,7 +69,7 @@ pub(crate) fn nothing() -> Polyvalue
 impl Polyvalue {
     // The pair of row i.
     pub(crate) fn row(self, i: usize) -> Pair
-        requires { ⌜ i < room ⌝ }
+        requires { ⌜ i < mostPairs ⌝ }
         ensures { λ r. ⌜ r ≡ getD (rowsOf self) i noPair ⌝ }
     {
         let value = self.values[i];
@@ -80,7 +80,7 @@ impl Polyvalue {
     // How many rows are in use: any count may be handed in.
     pub(crate) fn len(self) -> usize
         ensures { λ r. ⌜ r ≡ length (inUse self) ⌝ }
-        ensures { λ r. ⌜ r ≤ room ⌝ }
+        ensures { λ r. ⌜ r ≤ mostPairs ⌝ }
     {
         let n = self.count;
         if PAIRS < n {

@@ -6,7 +6,7 @@ ghost use Prim.Native.Nat.{_<_, _≤_};
 ghost use Rattle.conditions.specs.Places.{places};
 ghost use Rattle.conditions.specs.Conditions.{union};
 ghost use Rattle.polyvalues.specs.Pairs.{pair, assignments};
-ghost use Rattle.polyvalues.specs.Polyvalues.{room, rowsOf, inUse, packed, fitted};
+ghost use Rattle.polyvalues.specs.Polyvalues.{mostPairs, rowsOf, inUse, packed, fitted};
 ghost use Rattle.polyvalues.specs.Simplify.{insert, join};
 ghost use Rattle.polyvalues.specs.Rows.{PlaceOf, hasAt, moved};
 use crate::polyvalue::Joined;
@@ -16,7 +16,7 @@ use crate::polyvalue::Polyvalue;
 
 // The first row whose value is not below the new one's.
 fn place_of(q: Polyvalue, new: Pair) -> usize
-    requires { ⌜ q .count ≤ room ⌝ }
+    requires { ⌜ q .count ≤ mostPairs ⌝ }
     ensures { λ r. ⌜ PlaceOf q (new .value) r ⌝ }
 {
     let mut k: usize = 0;
@@ -32,7 +32,7 @@ fn place_of(q: Polyvalue, new: Pair) -> usize
 
 // Whether the row is in use and has the new one's value.
 fn has_at(q: Polyvalue, k: usize, new: Pair) -> bool
-    requires { ⌜ q .count ≤ room ⌝ }
+    requires { ⌜ q .count ≤ mostPairs ⌝ }
     ensures { λ r. ⌜ r ≡ hasAt q k (new .value) ⌝ }
 {
     if k < q.count {
@@ -44,7 +44,7 @@ fn has_at(q: Polyvalue, k: usize, new: Pair) -> bool
 
 // The rows from k to n moved down by one, with a new one at k.
 fn moved(q: Polyvalue, k: usize, n: usize, new: Pair) -> Polyvalue
-    requires { ⌜ (k ≤ n) × (n < room) ⌝ }
+    requires { ⌜ (k ≤ n) × (n < mostPairs) ⌝ }
     ensures { λ r. ⌜ rowsOf r ≡ moved k n new (rowsOf q) ⌝ }
 {
     let mut rows = q;

@@ -8,7 +8,7 @@ ghost use Rattle.conditions.specs.Places.{places};
 ghost use Rattle.conditions.specs.Conditions.{number};
 ghost use Rattle.polyvalues.specs.Values.{inRange};
 ghost use Rattle.polyvalues.specs.Pairs.{blank};
-ghost use Rattle.polyvalues.specs.Polyvalues.{each, room, rowsOf, inUse, tidy, sound};
+ghost use Rattle.polyvalues.specs.Polyvalues.{each, mostPairs, rowsOf, inUse, tidy, sound};
 ghost use Rattle.polyvalues.specs.Checked.{rowFits, checkedFrom, belowAll};
 use crate::polyvalue::PAIRS;
 use crate::polyvalue::Pair;
@@ -55,7 +55,7 @@ impl Pair {
 impl Polyvalue {
     // Whether the rows past the count hold zeros.
     fn is_tidy(self) -> bool
-        requires { ⌜ self .count ≤ room ⌝ }
+        requires { ⌜ self .count ≤ mostPairs ⌝ }
         ensures { λ r. ⌜ r ≡ tidy self ⌝ }
     {
         let mut i = self.count;

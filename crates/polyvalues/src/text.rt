@@ -13,7 +13,7 @@ ghost use Rattle.conditions.specs.Conditions.{number};
 ghost use Rattle.conditions.specs.Text.{bytes, decimal, numberAt, conditionText};
 ghost use Rattle.conditions.specs.Written.{Put, answer, written};
 ghost use Rattle.polyvalues.specs.Values.{below, valueText};
-ghost use Rattle.polyvalues.specs.Polyvalues.{room, inUse};
+ghost use Rattle.polyvalues.specs.Polyvalues.{mostPairs, inUse};
 ghost use Rattle.polyvalues.specs.Text.{pairText, lineText};
 use crate::polyvalue::Pair;
 use crate::polyvalue::Polyvalue;
@@ -147,7 +147,7 @@ impl Polyvalue {
     // How many bytes its line takes, where each place has its transaction number.
     pub fn text_len(self, numbers: [TransactionNumber; PLACES]) -> usize
         ensures { λ r. ⌜ r ≡ length (lineText places (numberAt numbers) (inUse self)) ⌝ }
-        ensures { λ r. ⌜ r ≤ 1 + room * (8 + (8 * places + 2) * 3 ^ places) ⌝ }
+        ensures { λ r. ⌜ r ≤ 1 + mostPairs * (8 + (8 * places + 2) * 3 ^ places) ⌝ }
     {
         let n = self.len();
         let mut len = decimal_len(n as u64);

@@ -18,7 +18,7 @@ use Rattle.book.proofs.Laws.Answers.{is-accepted}
 use Rattle.sheet.specs.declared.events.Event.{Event}
 use Rattle.sheet.specs.declared.playing.Played.{Played}
 use Rattle.sheet.specs.Lines.{eventLine, lentRoom, longestLine, lineAnswer, lineWritten}
-use Rattle.sheet.specs.Play.{Outcome, ofShow, outcome, outcomeLine, played, playedBuffer}
+use Rattle.sheet.specs.Play.{EventResult, ofShow, eventResult, resultLine, played, playedBuffer}
 use Rattle.sheet.specs.Plays.{head, Plays}
 use Rattle.sheet.proofs.Writing.{line-written, shown-line, refused-line}
 
@@ -33,7 +33,7 @@ module _ (a : Answer) {n : ℕ} (e : n ≡ answerNumber a) where
 
 -- ---- a line in a buffer that has room for it
 
-pub plays : (x : Outcome) (position : ℕ) {l m : List ℕ} {end : ℕ} → Put l m 0 end (outcomeLine position x) → end ≤ length l
+pub plays : (x : EventResult) (position : ℕ) {l m : List ℕ} {end : ℕ} → Put l m 0 end (resultLine position x) → end ≤ length l
     → Plays x position l (record { written = To end; book = x .book }) m
 plays x position {l} {m} {end} p h =
     let w = line-written p (omega (arith, p .ends)) in
@@ -66,7 +66,7 @@ module _ (w : ℕ) (b : Book) (s : List ℕ) (e : Event) (position : ℕ) (l : L
   unfolding played playedBuffer lineAnswer lineWritten
   too-short h = let short = lt-leb longestLine (length l) h in (rw short, rw short)
 
-  pub was-played : longestLine ≤ length l → {x : Outcome} {r : Played} {m : List ℕ} → Plays x position l r m → x ≡ outcome w b s e
+  pub was-played : longestLine ≤ length l → {x : EventResult} {r : Played} {m : List ℕ} → Plays x position l r m → x ≡ eventResult w b s e
       → (r ≡ played w b s e position l) × (m ≡ playedBuffer w b s e position l)
   unfolding played playedBuffer lineAnswer lineWritten
   was-played h p is =

@@ -13,10 +13,11 @@ use Rattle.sheet.specs.declared.opening.Opened.{Opened}
 use Rattle.sheet.specs.Readers.{Read, wrong, right}
 use Rattle.sheet.specs.Sections.{Sheet, sheet}
 
--- "sheet over 32,768 bytes"
+-- how many bytes a sheet may have
 abbrev pub mostBytes : ℕ
 mostBytes = 32768
 
+-- "14: sheet over 32,768 bytes"
 abbrev pub tooLong : List ℕ → Bool
 tooLong s = ltb mostBytes (length s)
 

@@ -11,13 +11,13 @@ use Rattle.sheet.specs.Readers.{Read, wrong, right}
 use Rattle.sheet.specs.Sections.{Sheet, sheet}
 use Rattle.sheet.specs.Open.{tooLong}
 use Rattle.sheet.specs.Lines.{refusalLine, endLine}
-use Rattle.sheet.specs.Play.{Outcome, outcome, outcomeLine}
+use Rattle.sheet.specs.Play.{EventResult, eventResult, resultLine}
 
 -- the lines of these events, on the book b, where the first has this position
 unfoldable pub eventLines : ℕ → Book → List ℕ → ℕ → List Event → List ℕ
 eventLines w b s position [] = []
 eventLines w b s position (e ∷ es) =
-    let x : Outcome = outcome w b s e in outcomeLine position x ++ eventLines w (x .book) s (suc position) es
+    let x : EventResult = eventResult w b s e in resultLine position x ++ eventLines w (x .book) s (suc position) es
 
 -- what is printed of the sheet s, as it was read
 unfoldable pub printed : ℕ → List ℕ → Read Sheet → List ℕ

@@ -21,45 +21,45 @@ use Rattle.sheet.specs.declared.playing.Played.{Played}
 use Rattle.sheet.specs.Lines.{eventLine, lentRoom, roomy, lineAnswer, lineWritten}
 
 -- what an event comes to: its answer, what its line says after the answer number where it is accepted, and the book that it returns
-pub record Outcome : Type 0 where
+pub record EventResult : Type 0 where
   pub answer : Answer
   pub more : List (List ℕ)
   pub book : Book
 
 -- "an accepted begin prints number and grant"
-abbrev pub ofBegun : Begun → Outcome
+abbrev pub ofBegun : Begun → EventResult
 ofBegun r = record { answer = r .answer; more = decimal (r .number .0) ∷ decimal (r .grant) ∷ []; book = r .book }
 
 -- the other events on a transaction print nothing more
-abbrev pub ofDone : Done → Outcome
+abbrev pub ofDone : Done → EventResult
 ofDone r = record { answer = r .answer; more = []; book = r .book }
 
 -- "an accepted show the count of pairs and each `value:condition`": the line that show writes. Its answer asks of the lent bytes only how many they are.
-unfoldable pub ofShow : ℕ → Book → ℕ → Outcome
+unfoldable pub ofShow : ℕ → Book → ℕ → EventResult
 ofShow w b i = record { answer = showAnswer w b i (replicate lentRoom 0); more = heldLine w b i ∷ []; book = b }
 
 -- an event of the sheet s, on the book b
-unfoldable pub outcome : ℕ → Book → List ℕ → Event → Outcome
-outcome w b s (Begin from to) = ofBegun (begin w b (take (to - from) (drop from s)))
-outcome w b s (Ready n d) = ofDone (ready w b (n .0) d)
-outcome w b s (GiveUp n d) = ofDone (giveUp w b (n .0) d)
-outcome w b s (Complete n) = ofDone (complete w b (n .0))
-outcome w b s (Abort n) = ofDone (abort w b (n .0))
-outcome w b s (Hear n d) = ofDone (hear w b (n .0) d)
-outcome w b s (Show i) = ofShow w b i
+unfoldable pub eventResult : ℕ → Book → List ℕ → Event → EventResult
+eventResult w b s (Begin from to) = ofBegun (begin w b (take (to - from) (drop from s)))
+eventResult w b s (Ready n d) = ofDone (ready w b (n .0) d)
+eventResult w b s (GiveUp n d) = ofDone (giveUp w b (n .0) d)
+eventResult w b s (Complete n) = ofDone (complete w b (n .0))
+eventResult w b s (Abort n) = ofDone (abort w b (n .0))
+eventResult w b s (Hear n d) = ofDone (hear w b (n .0) d)
+eventResult w b s (Show i) = ofShow w b i
 
 -- its line, where it is the event at this position
-abbrev pub outcomeLine : ℕ → Outcome → List ℕ
-outcomeLine position x = eventLine position (x .answer) (x .more)
+abbrev pub resultLine : ℕ → EventResult → List ℕ
+resultLine position x = eventLine position (x .answer) (x .more)
 
 -- ---- the call
 
 -- what the call answers, where the lent buffer is buf: a buffer that is too short leaves the book as it was
 unfoldable pub played : ℕ → Book → List ℕ → Event → ℕ → List ℕ → Played
 played w b s e position buf =
-    let x : Outcome = outcome w b s e in
-    record { written = lineAnswer buf (outcomeLine position x); book = cond (roomy buf) (x .book) b }
+    let x : EventResult = eventResult w b s e in
+    record { written = lineAnswer buf (resultLine position x); book = cond (roomy buf) (x .book) b }
 
 -- the buffer afterwards
 unfoldable pub playedBuffer : ℕ → Book → List ℕ → Event → ℕ → List ℕ → List ℕ
-playedBuffer w b s e position buf = lineWritten buf (outcomeLine position (outcome w b s e))
+playedBuffer w b s e position buf = lineWritten buf (resultLine position (eventResult w b s e))

@@ -10,7 +10,7 @@ use Rattle.conditions.specs.Written.{written}
 use Rattle.book.specs.declared.Answer.{Answer}
 use Rattle.book.specs.Answers.{answerNumber}
 use Rattle.sheet.specs.declared.playing.Played.{Played}
-use Rattle.sheet.specs.Play.{Outcome, outcomeLine}
+use Rattle.sheet.specs.Play.{EventResult, resultLine}
 
 -- a field, after its space
 abbrev pub field : List ℕ → List ℕ
@@ -20,7 +20,7 @@ field text = code " " ∷ text
 abbrev pub head : ℕ → Answer → List ℕ
 head position a = joined (code " ") (decimal position ∷ decimal (answerNumber a) ∷ [])
 
--- an outcome's line is at the start of a buffer that was l and is m, and r is what playing the event gave
-pub record Plays (x : Outcome) (position : ℕ) (l : List ℕ) (r : Played) (m : List ℕ) : Type 0 where
-  pub result : r ≡ record { written = To (length (outcomeLine position x)); book = x .book }
-  pub buffer : m ≡ written l 0 (outcomeLine position x)
+-- an eventResult's line is at the start of a buffer that was l and is m, and r is what playing the event gave
+pub record Plays (x : EventResult) (position : ℕ) (l : List ℕ) (r : Played) (m : List ℕ) : Type 0 where
+  pub result : r ≡ record { written = To (length (resultLine position x)); book = x .book }
+  pub buffer : m ≡ written l 0 (resultLine position x)

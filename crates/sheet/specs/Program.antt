@@ -16,24 +16,24 @@ use Rattle.sheet.specs.Events.{eventAt}
 use Rattle.sheet.specs.Sections.{Events}
 use Rattle.sheet.specs.Open.{openSheet}
 use Rattle.sheet.specs.Lines.{refusalLine, endLine}
-use Rattle.sheet.specs.Play.{Outcome, outcome, outcomeLine}
+use Rattle.sheet.specs.Play.{EventResult, eventResult, resultLine}
 
--- where there is an event, what is printed from it on; where there is none, the program stops
+-- where there is an event, what is printed from it on; where there is none, nothing more: `AsRead` shows that a sheet that opened has all that it counts
 abbrev pub fromEvent : EventAt → (Event → ℕ → List ℕ) → List ℕ
 fromEvent (Found e next) print = print e next
 fromEvent (Wrong place) print = []
 
 -- n events more of the sheet s and the last line, where the book is b and the first of them has this position and stands at this place
-unfoldable pub playedFrom : ℕ → List ℕ → ℕ → Book → ℕ → ℕ → List ℕ
-playedFrom w s zero b position at = endLine
-playedFrom w s (suc n) b position at =
-    fromEvent (eventAt s at) (λ e next. let x : Outcome = outcome w b s e in outcomeLine position x ++ playedFrom w s n (x .book) (suc position) next)
+unfoldable pub printedFrom : ℕ → List ℕ → ℕ → Book → ℕ → ℕ → List ℕ
+printedFrom w s zero b position at = endLine
+printedFrom w s (suc n) b position at =
+    fromEvent (eventAt s at) (λ e next. let x : EventResult = eventResult w b s e in resultLine position x ++ printedFrom w s n (x .book) (suc position) next)
 
 -- the program: the sheet's bytes
 unfoldable pub byCalls : ℕ → List ℕ → List ℕ
 byCalls w s =
     let o : Opened = openSheet w s in
-    cond (accepted (o .answer)) (playedFrom w s (o .count) (o .book) 1 (o .first)) (refusalLine (o .answer) (o .place))
+    cond (accepted (o .answer)) (printedFrom w s (o .count) (o .book) 1 (o .first)) (refusalLine (o .answer) (o .place))
 
 -- these events stand in the sheet s one behind the other, the first at this place
 abbrev pub Stand : List ℕ → ℕ → List Event → Type 0

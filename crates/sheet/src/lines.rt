@@ -1,12 +1,11 @@
 // Lines, written into a lent buffer that has room for any of them.
 ghost use mathlib.Core.Path.{_≡_};
-ghost use mathlib.Core.List.{[], _∷_, _++_};
+ghost use mathlib.Core.List.{[], _∷_};
 ghost use Prim.Native.Nat.{_+_, _≤_};
 ghost use lib.ListN.{length};
-ghost use Rattle.conditions.specs.Text.{bytes, decimal};
+ghost use Rattle.conditions.specs.Text.{decimal};
 ghost use Rattle.conditions.specs.Written.{Put};
-ghost use Rattle.book.specs.Answers.{answerNumber};
-ghost use Rattle.sheet.specs.Lines.{longestLine, eventLine, refusalLine, lineAnswer, lineWritten};
+ghost use Rattle.sheet.specs.Lines.{eventLine, refusalLine, lineAnswer, lineWritten};
 ghost use Rattle.sheet.specs.Plays.{field, head};
 use book::Answer;
 use conditions::Written;

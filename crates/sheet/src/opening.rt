@@ -1,7 +1,6 @@
 // Open: a sheet is read whole, and a good one opens a book.
 ghost use mathlib.Core.Path.{_≡_};
 ghost use Rattle.conditions.specs.Places.{places};
-ghost use Rattle.book.specs.declared.Answer.{Answer as Answer·Answer};
 ghost use Rattle.sheet.specs.Open.{refused, openSheet};
 use crate::sections::districts;
 use crate::sections::events;

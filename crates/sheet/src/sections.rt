@@ -1,8 +1,7 @@
 // The sections of a sheet: districts, items and events.
-ghost use mathlib.Core.Path.{_≡_};
 ghost use mathlib.Core.List.{List, []};
 ghost use Prim.Native.Nat.{_≤_};
-ghost use lib.ListN.{length, drop};
+ghost use lib.ListN.{drop};
 ghost use Rattle.book.specs.Book.{mostItems};
 ghost use Rattle.book.specs.Openings.{openingsOf};
 ghost use Rattle.sheet.specs.declared.events.Event.{Event};

@@ -1,19 +1,18 @@
 -- One run for a block of assignments stands for a run under each of them.
 use mathlib.Core.Path.{_≡_, refl, sym, ap, ap₂, _∙_}
-use mathlib.Core.Bool.{Bool, true, false, not, _&&_, _||_, cond, true≢false, and-true, and-false, or-true, or-false}
+use mathlib.Core.Bool.{Bool, true, false, not, _&&_, _||_, cond, true≢false, and-false, or-true, or-false}
 use mathlib.Core.List.{List}
 use Prim.Native.Nat.{ℕ, zero, suc, _^_, _≤_, _<_}
 use native.Mathlib.Omega.{arith}
 use lib.Dec.{eqb}
-use lib.IntN.{ℤ}
 use borrow.Author.Count.{below-more}
 use borrow.Author.Tests.{not-true, not-false}
 use Rattle.conditions.specs.Below.{all, any}
 use Rattle.conditions.specs.Sets.{member}
-use Rattle.conditions.specs.Conditions.{full, union, intersection, complement, lowest}
-use Rattle.conditions.proofs.Laws.Below.{and-left, and-right, or-left, or-right, by-cases, all-of, all-at, all-fails, any-of, any-none, any-some, none-any, before-first, first-passes, first-le}
-use Rattle.conditions.proofs.Laws.Conditions.{member-full, member-union, member-intersection, member-complement, full-lt, intersection-lt}
-use Rattle.polyvalues.specs.Pairs.{applies, at, applying, hits}
+use Rattle.conditions.specs.Conditions.{full, union, intersection}
+use Rattle.conditions.proofs.Laws.Below.{and-left, and-right, or-left, or-right, by-cases, all-of, all-fails, any-of, any-none, any-some, none-any}
+use Rattle.conditions.proofs.Laws.Conditions.{member-full, member-union, member-intersection, full-lt, intersection-lt}
+use Rattle.polyvalues.specs.Pairs.{applies, applying, hits}
 use Rattle.polyvalues.specs.Polyvalues.{inUse}
 use Rattle.polyvalues.specs.Simplify.{join, canonOver}
 use Rattle.polyvalues.proofs.Laws.Applying.{applying-applies, applying-same}
@@ -21,7 +20,7 @@ use Rattle.polyvalues.proofs.Laws.Canon.{over-join}
 use Rattle.book.specs.declared.Book.{Book}
 use Rattle.book.specs.declared.Step.{Step}
 use Rattle.book.specs.Book.{itemAt}
-use Rattle.book.specs.Programs.{declined, run, touches}
+use Rattle.book.specs.Programs.{run, touches}
 use Rattle.book.specs.Begin.{heldAt, declinesAt, grant}
 use Rattle.book.specs.Alternatives.{conditionAt, blockBelow, block, someDeclines, someGrants}
 use Rattle.book.proofs.Laws.Programs.{declined-reads, run-reads}

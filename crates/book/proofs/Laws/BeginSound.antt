@@ -15,8 +15,7 @@ use Rattle.conditions.specs.Conditions.{full}
 use Rattle.conditions.proofs.Laws.Below.{by-cases, any-none, any-of, first-passes}
 use Rattle.conditions.proofs.Laws.Sets.{member-past, member-none, setOf-lt, member-setOf, is-setOf}
 use Rattle.polyvalues.specs.Pairs.{depends}
-use Rattle.polyvalues.specs.Polyvalues.{room, inUse, packed, WellFormed}
-use Rattle.polyvalues.specs.Polyvalues.{sound as soundPolyvalue}
+use Rattle.polyvalues.specs.Polyvalues.{mostPairs, inUse, packed, WellFormed}
 use Rattle.polyvalues.specs.Operations.{together}
 use Rattle.polyvalues.proofs.Laws.Canon.{over-full}
 use Rattle.polyvalues.proofs.Laws.Depends.{at-free, free-canon}
@@ -163,14 +162,14 @@ module _ (w : ℕ) (b : Book) (sound : Sound w b) (t : Shaped w b) (xs : List St
     value a = run xs (heldAt b a) i
 
     -- old and new values have room together
-    together-few : together (inUse (itemAt b i .held)) (results w b xs i) ≤ room
+    together-few : together (inUse (itemAt b i .held)) (results w b xs i) ≤ mostPairs
     unfolding tooMany
     together-few =
-        let no : (touches xs i && ltb room (together (inUse (itemAt b i .held)) (results w b xs i))) ≡ false =
-        any-none (b .count) (λ i. touches xs i && ltb room (together (inUse (itemAt b i .held)) (results w b xs i))) (f .few) i (below i k) in
-        ltb-false room (together (inUse (itemAt b i .held)) (results w b xs i)) (rw k at no)
+        let no : (touches xs i && ltb mostPairs (together (inUse (itemAt b i .held)) (results w b xs i))) ≡ false =
+        any-none (b .count) (λ i. touches xs i && ltb mostPairs (together (inUse (itemAt b i .held)) (results w b xs i))) (f .few) i (below i k) in
+        ltb-false mostPairs (together (inUse (itemAt b i .held)) (results w b xs i)) (rw k at no)
 
-    results-few : length (results w b xs i) ≤ room
+    results-few : length (results w b xs i) ≤ mostPairs
     unfolding results
     results-few =
         let l : length (results w b xs i) ≤ together (inUse (itemAt b i .held)) (results w b xs i) =

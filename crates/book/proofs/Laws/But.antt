@@ -8,17 +8,17 @@ use lib.Dec.{eqb}
 use borrow.Author.Tests.{eq-eqb, eqb-true, eqb-false}
 use Rattle.conditions.specs.Sets.{member}
 use Rattle.conditions.proofs.Laws.Below.{and-left, and-right, by-cases, any-none, none-any, is-first, first-le, first-passes, before-first}
-use Rattle.polyvalues.specs.Polyvalues.{room, inUse}
+use Rattle.polyvalues.specs.Polyvalues.{mostPairs, inUse}
 use Rattle.polyvalues.specs.Polyvalues.{sound as soundPolyvalue}
 use Rattle.polyvalues.specs.Operations.{together}
 use Rattle.book.specs.declared.Record.{Record}
 use Rattle.book.specs.declared.Item.{Item}
 use Rattle.book.specs.declared.Open.{Open}
 use Rattle.book.specs.declared.Book.{Book}
-use Rattle.book.specs.Book.{mostDistricts, mostItems, lastNumber, noRecord, noItem, noOpen, recordAt, itemAt, openAt, idle, computing, recordOn, itemOn, isOpen, named, placeOf, itemDepends, someDepends}
+use Rattle.book.specs.Book.{mostDistricts, mostItems, lastNumber, noRecord, noItem, noOpen, recordAt, itemAt, openAt, idle, computing, recordOn, itemOn, isOpen, named, placeOf, itemDepends, someDepends, openOf}
 use Rattle.book.specs.Records.{computingOn, waitingOn, busyOn}
 use Rattle.book.specs.Forget.{needed}
-use Rattle.book.specs.Sound.{EachOpen, itsOpen, Sound}
+use Rattle.book.specs.Sound.{EachOpen, Sound}
 
 -- ---- rows
 
@@ -39,7 +39,7 @@ pub record ItemRow (w districts n q : ℕ) (x : Item) : Type 0 where
   pub pending : soundPolyvalue w (x .pending) ≡ true
   pub idleSame : n ≡ 0 → x .pending ≡ x .held
   pub ownFree : 1 ≤ n → itemDepends w x q ≡ false
-  pub fewTogether : together (inUse (x .held)) (inUse (x .pending)) ≤ room
+  pub fewTogether : together (inUse (x .held)) (inUse (x .pending)) ≤ mostPairs
 
 -- an open transaction, where the last number given is this
 pub record OpenRow (districts last : ℕ) (o : Open) : Type 0 where
@@ -61,7 +61,7 @@ pub record SoundBut (w : ℕ) (b : Book) : Type 0 where
   pub someItems : 1 ≤ b .count
   pub fewItems : b .count ≤ mostItems
   pub last : b .last .0 ≤ lastNumber
-  pub districts : (d : ℕ) → d < b .districts → DistrictRow w d (placeOf w b (recordAt b d .transaction .0)) (itsOpen w b (recordAt b d)) (recordAt b d)
+  pub districts : (d : ℕ) → d < b .districts → DistrictRow w d (placeOf w b (recordAt b d .transaction .0)) (openOf w b (recordAt b d .transaction .0)) (recordAt b d)
   pub items : (i : ℕ) → i < b .count → ItemRow w (b .districts) (itemOn b (itemAt b i)) (placeOf w b (itemOn b (itemAt b i))) (itemAt b i)
   pub opens : (q : ℕ) → q < w → isOpen (openAt b q) ≡ true → OpenRow (b .districts) (b .last .0) (openAt b q)
   pub differ : (q : ℕ) → q < w → isOpen (openAt b q) ≡ true → (p : ℕ) → p < q → openAt b p .number .0 ≡ openAt b q .number .0 → ⊥

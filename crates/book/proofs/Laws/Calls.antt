@@ -11,11 +11,11 @@ use Rattle.book.specs.declared.Answer.{Answer}
 use Rattle.book.specs.declared.Book.{Book}
 use Rattle.book.specs.declared.Step.{Step}
 use Rattle.book.specs.Answers.{accepted}
-use Rattle.book.specs.Book.{lastNumber, recordAt, placeOf, freePlace}
+use Rattle.book.specs.Book.{lastNumber, recordAt, placeOf, freePlace, openOf}
 use Rattle.book.specs.Programs.{steps}
 use Rattle.book.specs.Records.{computingOn, busyOn}
 use Rattle.book.specs.Forget.{decided, forget}
-use Rattle.book.specs.Transactions.{openOf, done}
+use Rattle.book.specs.Transactions.{done}
 use Rattle.book.specs.Begin.{badProgram, badLength, beginAnswer, begun, begin}
 use Rattle.book.specs.Ready.{readyAnswer, readied, ready}
 use Rattle.book.specs.GiveUp.{giveUpAnswer, gaveUp, giveUp}

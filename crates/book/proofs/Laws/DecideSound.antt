@@ -10,9 +10,8 @@ use Rattle.conditions.specs.Sets.{member}
 use Rattle.conditions.proofs.Laws.Below.{by-cases}
 use Rattle.book.specs.declared.Open.{Open}
 use Rattle.book.specs.declared.Book.{Book}
-use Rattle.book.specs.Book.{noOpen, recordAt, openAt, itemOn, placeOf}
+use Rattle.book.specs.Book.{noOpen, recordAt, openAt, itemOn, placeOf, openOf}
 use Rattle.book.specs.Decide.{withDecision, decide}
-use Rattle.book.specs.Transactions.{openOf}
 use Rattle.book.proofs.Laws.Shaped.{Shaped, getD-set}
 use Rattle.book.proofs.Laws.But.{OpenRow, SoundBut, Seen, seen-same, district-stays, place-open}
 use Rattle.book.proofs.Laws.Changing.{change-but}

@@ -12,11 +12,11 @@ use Rattle.book.specs.declared.Answer.{Answer}
 use Rattle.book.specs.declared.Item.{Item}
 use Rattle.book.specs.declared.Book.{Book}
 use Rattle.book.specs.Answers.{accepted}
-use Rattle.book.specs.Book.{recordAt, itemAt, placeOf}
+use Rattle.book.specs.Book.{recordAt, itemAt, placeOf, openOf}
 use Rattle.book.specs.Programs.{steps, run, touches}
 use Rattle.book.specs.Records.{computingOn, busyOn}
 use Rattle.book.specs.Items.{there, concerned}
-use Rattle.book.specs.Transactions.{openOf, done}
+use Rattle.book.specs.Transactions.{done}
 use Rattle.book.specs.Begin.{heldAt, begun, begin}
 use Rattle.book.specs.Ready.{readyAnswer, readied, ready}
 use Rattle.book.specs.GiveUp.{giveUpAnswer, gaveUp, giveUp}

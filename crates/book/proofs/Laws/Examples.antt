@@ -37,7 +37,7 @@ use Rattle.book.specs.Ready.{readyAnswer, readied, ready}
 use Rattle.book.specs.GiveUp.{giveUpAnswer, giveUpItem, gaveUp, giveUp}
 use Rattle.book.specs.Decide.{someNotReady, completeAnswer, decide, complete}
 use Rattle.book.specs.Hear.{hearAnswer, hearItem, heard, hear}
-use Rattle.book.specs.Examples.{bookOf, need4, need5, add1, addMinus1, addMinus2, addMinus4, set7, leftOpen, unsure, twice, told, T1, T2, aborted, both, Gives, Holds, Example1, Example2, Example3, Example4, Example5, Example6, Example7, Example8, Example9, Examples}
+use Rattle.book.specs.Examples.{bookOf, need4, need5, add1, addMinus1, addMinus2, addMinus4, set7, leftOpen, unsure, twice, told, T1, T2, aborted, both, Gives, Holds, Example1, Example2, Example3, Example4, Example5, Example6, Example7, Example8, Example9}
 use Rattle.book.proofs.Laws.Answers.{is-accepted}
 use Rattle.book.proofs.Laws.Same.{three, same-pairs}
 
@@ -120,16 +120,3 @@ example-8 = held _ _ _ _ (tests .eight)
 
 pub example-9 : Example9
 example-9 = held _ _ _ _ (tests .nine)
-
-pub examples : Examples
-examples = record {
-  one = example-1;
-  two = example-2;
-  three = example-3;
-  four = example-4;
-  five = example-5;
-  six = example-6;
-  seven = example-7;
-  eight = example-8;
-  nine = example-9;
-}

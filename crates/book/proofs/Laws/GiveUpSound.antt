@@ -11,11 +11,10 @@ use Rattle.book.specs.declared.Record.{Record}
 use Rattle.book.specs.declared.Item.{Item}
 use Rattle.book.specs.declared.Open.{Open}
 use Rattle.book.specs.declared.Book.{Book}
-use Rattle.book.specs.Book.{mostDistricts, mostItems, noRecord, noOpen, voidItem, recordAt, itemAt, openAt, recordOn, itemOn, isOpen, placeOf, itemDepends}
+use Rattle.book.specs.Book.{mostDistricts, mostItems, noRecord, noOpen, voidItem, recordAt, itemAt, openAt, recordOn, itemOn, isOpen, placeOf, itemDepends, openOf}
 use Rattle.book.specs.Records.{computingOn, busyOn}
 use Rattle.book.specs.Items.{there, concerned, drop, split}
 use Rattle.book.specs.GiveUp.{giveUpItem, marked, gaveUp}
-use Rattle.book.specs.Transactions.{openOf}
 use Rattle.book.specs.Sound.{Sound}
 use Rattle.book.proofs.Laws.Rows.{length-rows, past-rows}
 use Rattle.book.proofs.Laws.Sound.{place-named}

@@ -10,11 +10,10 @@ use Rattle.conditions.proofs.Laws.Below.{by-cases}
 use Rattle.book.specs.declared.Record.{Record}
 use Rattle.book.specs.declared.Item.{Item}
 use Rattle.book.specs.declared.Book.{Book}
-use Rattle.book.specs.Book.{mostDistricts, mostItems, noRecord, voidItem, recordAt, itemAt, openAt, recordOn, itemOn, isOpen, placeOf, itemDepends}
+use Rattle.book.specs.Book.{mostDistricts, mostItems, noRecord, voidItem, recordAt, itemAt, openAt, recordOn, itemOn, isOpen, placeOf, itemDepends, openOf}
 use Rattle.book.specs.Records.{busyOn, hearRecord}
 use Rattle.book.specs.Items.{there, concerned, install, drop, reduceItem}
 use Rattle.book.specs.Hear.{outcome, hearItem, heard}
-use Rattle.book.specs.Transactions.{openOf}
 use Rattle.book.specs.Sound.{Sound}
 use Rattle.book.proofs.Laws.Rows.{length-rows, past-rows}
 use Rattle.book.proofs.Laws.Sound.{place-named}

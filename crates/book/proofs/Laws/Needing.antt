@@ -18,10 +18,9 @@ use Rattle.book.specs.declared.Item.{Item}
 use Rattle.book.specs.declared.Open.{Open}
 use Rattle.book.specs.declared.Step.{Step}
 use Rattle.book.specs.declared.Book.{Book}
-use Rattle.book.specs.Book.{mostDistricts, mostItems, noRecord, noOpen, voidItem, recordAt, itemAt, openAt, recordOn, placeOf, freePlace, itemDepends, someDepends, someOn, withOpen}
+use Rattle.book.specs.Book.{mostDistricts, mostItems, noRecord, noOpen, voidItem, recordAt, itemAt, openAt, recordOn, placeOf, freePlace, itemDepends, someDepends, someOn, withOpen, openOf}
 use Rattle.book.specs.Programs.{touches}
 use Rattle.book.specs.Records.{computingOn, beginRecord, readyRecord}
-use Rattle.book.specs.Transactions.{openOf}
 use Rattle.book.specs.Forget.{decided, needed, remembered, forget}
 use Rattle.book.specs.Ready.{reported, readied}
 use Rattle.book.specs.Decide.{withDecision, decide}

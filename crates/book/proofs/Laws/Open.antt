@@ -12,7 +12,7 @@ use Rattle.conditions.specs.Sets.{digit}
 use Rattle.conditions.proofs.Laws.Below.{by-cases, none-any}
 use Rattle.polyvalues.specs.Values.{inRange, equal}
 use Rattle.polyvalues.specs.Pairs.{depends, certain}
-use Rattle.polyvalues.specs.Polyvalues.{room, inUse, packed}
+use Rattle.polyvalues.specs.Polyvalues.{mostPairs, inUse, packed}
 use Rattle.polyvalues.specs.Polyvalues.{sound as soundPolyvalue}
 use Rattle.polyvalues.specs.Operations.{different, together}
 use Rattle.polyvalues.proofs.Laws.Canon.{certain-canon}
@@ -44,7 +44,7 @@ digit-le : (t : Bool) → digit t ≤ 1
 digit-le true = omega arith
 digit-le false = omega arith
 
-certain-few : (w : ℕ) (v : ℤ) → together (inUse (packed (certain w v))) (inUse (packed (certain w v))) ≤ room
+certain-few : (w : ℕ) (v : ℤ) → together (inUse (packed (certain w v))) (inUse (packed (certain w v))) ≤ mostPairs
 unfolding certain together different
 certain-few w v = rw (inUse-packed (certain w v)) (omega (arith, digit-le (not (equal v v || false))))
 
@@ -53,7 +53,7 @@ record Fresh (w districts : ℕ) (x : Item) : Type 0 where
   held : soundPolyvalue w (x .held) ≡ true
   same : x .pending ≡ x .held
   free : (q : ℕ) → itemDepends w x q ≡ false
-  few : together (inUse (x .held)) (inUse (x .pending)) ≤ room
+  few : together (inUse (x .held)) (inUse (x .pending)) ≤ mostPairs
 
 fresh : (w districts : ℕ) (x : Opening) → x .district < districts → inRange (x .value) ≡ true → Fresh w districts (openedItem w x)
 unfolding openedItem itemDepends

@@ -11,10 +11,9 @@ use Rattle.book.specs.declared.Record.{Record}
 use Rattle.book.specs.declared.Item.{Item}
 use Rattle.book.specs.declared.Open.{Open}
 use Rattle.book.specs.declared.Book.{Book}
-use Rattle.book.specs.Book.{mostDistricts, noRecord, noOpen, recordAt, itemAt, openAt, idle, recordOn, itemOn, placeOf}
+use Rattle.book.specs.Book.{mostDistricts, noRecord, noOpen, recordAt, itemAt, openAt, idle, recordOn, itemOn, placeOf, openOf}
 use Rattle.book.specs.Records.{computingOn, readyRecord}
 use Rattle.book.specs.Ready.{reported, readied}
-use Rattle.book.specs.Transactions.{openOf}
 use Rattle.book.proofs.Laws.Including.{including-own, including-other, including-lt}
 use Rattle.book.proofs.Laws.Shaped.{Shaped, getD-set}
 use Rattle.book.proofs.Laws.But.{DistrictRow, OpenRow, SoundBut, Seen, seen-same, district-stays, item-stays, place-open, computing-on}

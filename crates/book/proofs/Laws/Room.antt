@@ -13,7 +13,7 @@ use Rattle.conditions.proofs.Laws.Places.{place-lt}
 use Rattle.polyvalues.specs.declared.polyvalue.Pair.{Pair}
 use Rattle.polyvalues.specs.Values.{equal}
 use Rattle.polyvalues.specs.Pairs.{applies, at, hits}
-use Rattle.polyvalues.specs.Polyvalues.{room, Complete, WellFormed, inUse}
+use Rattle.polyvalues.specs.Polyvalues.{mostPairs, Complete, WellFormed, inUse}
 use Rattle.polyvalues.specs.Operations.{reduce, select, occurs, together}
 use Rattle.polyvalues.proofs.Laws.Values.{equal-refl}
 use Rattle.polyvalues.proofs.Laws.Canon.{each-over, over-full}
@@ -59,7 +59,7 @@ unfolding together
 together-swap ps qs = different-le (qs ++ ps) (ps ++ qs) (λ u. occurs-either u qs ps (ps ++ qs) (occurs-second u ps qs) (occurs-first u ps qs))
 
 -- a list together with itself
-pub together-self : (w : ℕ) (ps : List Pair) → WellFormed w ps → together ps ps ≤ room
+pub together-self : (w : ℕ) (ps : List Pair) → WellFormed w ps → together ps ps ≤ mostPairs
 unfolding together
 together-self w ps f =
     omega (arith, f .few, different-rising ps (f .complete .simple .rising), different-le (ps ++ ps) ps (λ u. occurs-either u ps ps ps (λ e. e) (λ e. e)))
@@ -76,15 +76,15 @@ together-reduce w q o ps qs c d =
 
 module _ (w : ℕ) (b : Book) (s : Sound w b) (i : ℕ) (h : i < b .count) where
   -- giving up: pending and held are few together
-  pub split-together : together (inUse (itemAt b i .pending)) (inUse (itemAt b i .held)) ≤ room
+  pub split-together : together (inUse (itemAt b i .pending)) (inUse (itemAt b i .held)) ≤ mostPairs
   split-together = omega (arith, s .fewTogether i h, together-swap (inUse (itemAt b i .held)) (inUse (itemAt b i .pending)))
 
   -- giving up has room for the pending value where the transaction at q completes and the held value where it aborts
-  pub give-up-room : (q : ℕ) → length (select w q (inUse (itemAt b i .pending)) (inUse (itemAt b i .held))) ≤ room
+  pub give-up-room : (q : ℕ) → length (select w q (inUse (itemAt b i .pending)) (inUse (itemAt b i .held))) ≤ mostPairs
   give-up-room q = omega (arith, split-together, select-count w q (inUse (itemAt b i .pending)) (inUse (itemAt b i .held)))
 
   -- hearing has room for the reduced values
-  pub hear-room : (q : ℕ) (o : Bool) → (length (reduce w q o (inUse (itemAt b i .held))) ≤ room) × (length (reduce w q o (inUse (itemAt b i .pending))) ≤ room)
+  pub hear-room : (q : ℕ) (o : Bool) → (length (reduce w q o (inUse (itemAt b i .held))) ≤ mostPairs) × (length (reduce w q o (inUse (itemAt b i .pending))) ≤ mostPairs)
   hear-room q o = (
     omega (arith, sound-well-formed w (itemAt b i .held) (s .held i h) .few, reduce-count w q o (inUse (itemAt b i .held))),
     omega (arith, sound-well-formed w (itemAt b i .pending) (s .pending i h) .few, reduce-count w q o (inUse (itemAt b i .pending))),

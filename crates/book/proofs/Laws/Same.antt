@@ -18,12 +18,12 @@ use Rattle.polyvalues.specs.Pairs.{assignments}
 use Rattle.polyvalues.specs.Polyvalues.{paired}
 use Rattle.polyvalues.proofs.Laws.Values.{equal-refl, equal-true}
 use Rattle.polyvalues.proofs.Laws.Holds.{same-pair}
-use Rattle.polyvalues.specs.Operations.{same}
+use Rattle.polyvalues.specs.Operations.{sameRows, samePair, same}
 use Rattle.book.specs.declared.Record.{Record}
 use Rattle.book.specs.declared.Item.{Item}
 use Rattle.book.specs.declared.Open.{Open}
 use Rattle.book.specs.Book.{noRecord, noOpen}
-use Rattle.book.specs.SoundTest.{sameRows, sameCondition, samePolyvalue, sameItem, zeroRecord, zeroOpen}
+use Rattle.book.specs.SoundTest.{sameCondition, samePolyvalue, sameItem, zeroRecord, zeroOpen}
 
 -- ---- tests that hold together
 
@@ -46,20 +46,14 @@ eight a b c d f g h i e =
 
 -- ---- equal rows
 
-pub same-pairs : (ps qs : List Pair) → same ps qs ≡ true → ps ≡ qs
-same-pairs [] [] e = refl
-same-pairs [] (q ∷ qs) e = absurd (false≢true e)
-same-pairs (p ∷ ps) [] e = absurd (false≢true e)
-same-pairs (p ∷ ps) (q ∷ qs) e =
-    let t = three (equal (p .value) (q .value)) (eqb (assignments p) (assignments q)) (same ps qs) e in
-    ap₂ _∷_ (same-pair p q (equal-true (p .value) (q .value) (t .0)) (eqb-true (assignments p) (assignments q) (t .1))) (same-pairs ps qs (t .2))
-
--- of any array
 same-rows : {A : Type 0} (f : A → A → Bool) → ((x y : A) → f x y ≡ true → x ≡ y) → (xs ys : List A) → sameRows f xs ys ≡ true → xs ≡ ys
 same-rows f g [] [] e = refl
 same-rows f g [] (y ∷ ys) e = absurd (false≢true e)
 same-rows f g (x ∷ xs) [] e = absurd (false≢true e)
 same-rows f g (x ∷ xs) (y ∷ ys) e = ap₂ _∷_ (g x y (and-left (f x y) _ e)) (same-rows f g xs ys (and-right (f x y) _ e))
+
+pub same-pairs : (ps qs : List Pair) → same ps qs ≡ true → ps ≡ qs
+same-pairs = same-rows samePair (λ p q e. same-pair p q (equal-true (p .value) (q .value) (and-left _ _ e)) (eqb-true (assignments p) (assignments q) (and-right (equal (p .value) (q .value)) _ e)))
 
 rows-same : {A : Type 0} (f : A → A → Bool) → ((x : A) → f x x ≡ true) → (xs : List A) → sameRows f xs xs ≡ true
 rows-same f g [] = refl

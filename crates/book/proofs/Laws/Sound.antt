@@ -7,18 +7,19 @@ use lib.Dec.{eqb, leb, ltb}
 use borrow.Author.Tests.{ltb-true, leb-true, eqb-true, eqb-false, ltb-false, not-true, lt-ltb, le-ltb, le-leb, eq-eqb, ne-eqb}
 use Rattle.conditions.specs.Below.{all}
 use Rattle.conditions.specs.Sets.{member}
-use Rattle.conditions.proofs.Laws.Below.{and-left, and-right, by-cases, all-at, all-of, first-passes}
-use Rattle.polyvalues.specs.Polyvalues.{room, inUse}
+use Rattle.conditions.proofs.Laws.Below.{and-left, and-right, by-cases, all-at, all-of, any-none, first-passes}
+use Rattle.polyvalues.specs.Polyvalues.{mostPairs, inUse}
 use Rattle.polyvalues.specs.Polyvalues.{sound as soundPolyvalue}
 use Rattle.polyvalues.specs.Operations.{together}
 use Rattle.book.specs.declared.Record.{Record}
 use Rattle.book.specs.declared.Item.{Item}
 use Rattle.book.specs.declared.Open.{Open}
 use Rattle.book.specs.declared.Book.{Book}
-use Rattle.book.specs.Book.{mostDistricts, mostItems, lastNumber, noItem, recordAt, itemAt, openAt, idle, waiting, itemOn, isOpen, named, placeOf, recordOn, itemDepends, someDepends}
+use Rattle.book.specs.Book.{mostDistricts, mostItems, lastNumber, noItem, recordAt, itemAt, openAt, idle, waiting, itemOn, isOpen, named, placeOf, recordOn, itemDepends, someDepends, openOf}
 use Rattle.book.specs.Forget.{decided, needed}
-use Rattle.book.specs.Sound.{itsOpen, Sound}
+use Rattle.book.specs.Sound.{Sound}
 use Rattle.book.specs.SoundTest.{zeroOpen, soundBusy, soundRecord, soundDistrict, soundPending, soundRow, soundItem, soundAt, soundOpen, soundPlace, sound}
+use Rattle.book.proofs.Laws.But.{DistrictRow, ItemRow, OpenRow, sound-but, but-sound}
 use Rattle.book.proofs.Laws.Same.{three, five, eight, same-polyvalue, polyvalue-same, same-item, item-same, zero-record, record-zero, zero-open, open-zero}
 
 -- a test of two cases, in the case that holds
@@ -37,93 +38,65 @@ if-both false x y f g = g refl
 
 -- ---- districts
 
-record Busy (w : ℕ) (b : Book) (d : ℕ) (r : Record) : Type 0 where
-  place : placeOf w b (r .transaction .0) < w
-  touched : member (itsOpen w b r .touched) d ≡ true
-  ready : r .phase ≡ 2 → member (itsOpen w b r .ready) d ≡ true
-  notReady : r .phase ≡ 1 → member (itsOpen w b r .ready) d ≡ false
-  notGave : r .phase ≡ 1 → member (itsOpen w b r .gave) d ≡ false
-
-test-busy : (w : ℕ) (b : Book) (d : ℕ) (r : Record) → soundBusy w d (placeOf w b (r .transaction .0)) (itsOpen w b r) (waiting r) ≡ true → Busy w b d r
-unfolding soundBusy
-test-busy w b d r e =
-    let q = placeOf w b (r .transaction .0) in
-    let o = itsOpen w b r in
-    let t = three (ltb q w) (member (o .touched) d) (cond (waiting r) (member (o .ready) d) (not (member (o .ready) d) && not (member (o .gave) d))) e in
-    let neither : r .phase ≡ 1 → (not (member (o .ready) d) && not (member (o .gave) d)) ≡ true =
-    λ h. if-false (waiting r) _ _ (t .2) (ap (λ (n : ℕ). eqb n 2) h) in
-    record {
-      place = ltb-true q w (t .0);
-      touched = t .1;
-      ready = λ h. if-true (waiting r) _ _ (t .2) (eq-eqb (r .phase) 2 h);
-      notReady = λ h. not-true _ (and-left (not (member (o .ready) d)) _ (neither h));
-      notGave = λ h. not-true _ (and-right (not (member (o .ready) d)) _ (neither h));
-    }
-
-busy-test : (w : ℕ) (b : Book) (d : ℕ) (r : Record) → r .phase ≤ 2 → idle r ≡ false → Busy w b d r
-    → soundBusy w d (placeOf w b (r .transaction .0)) (itsOpen w b r) (waiting r) ≡ true
-unfolding soundBusy
-busy-test w b d r phase busy f =
-    ap₂ _&&_ (ap₂ _&&_ (lt-ltb (placeOf w b (r .transaction .0)) w (f .place)) (f .touched))
-    (if-both (waiting r) _ _
-    (λ h. f .ready (eqb-true (r .phase) 2 h))
-    (λ h.
-    let one : r .phase ≡ 1 = omega (arith, eqb-false (r .phase) 2 h, eqb-false (r .phase) 0 busy) in
-    ap₂ _&&_ (ap not (f .notReady one)) (ap not (f .notGave one))))
-
-record District (w : ℕ) (b : Book) (d : ℕ) (r : Record) : Type 0 where
-  phase : r .phase ≤ 2
-  none : idle r ≡ true → r .transaction .0 ≡ 0
-  busy : idle r ≡ false → Busy w b d r
-
-test-record : (w : ℕ) (b : Book) (d : ℕ) (r : Record) → soundRecord w b d r ≡ true → District w b d r
-unfolding soundRecord
+test-record : (w : ℕ) (b : Book) (d : ℕ) (r : Record) → soundRecord w b d r ≡ true → DistrictRow w d (placeOf w b (r .transaction .0)) (openOf w b (r .transaction .0)) r
+unfolding soundRecord soundBusy
 test-record w b d r e =
+    let q = placeOf w b (r .transaction .0) in
+    let o = openOf w b (r .transaction .0) in
+    let known : Bool = cond (waiting r) (member (o .ready) d) (not (member (o .ready) d) && not (member (o .gave) d)) in
     let t = and-right (leb (r .phase) 2) _ e in
+    let busy : idle r ≡ false → (ltb q w ≡ true) × (member (o .touched) d ≡ true) × (known ≡ true) =
+    λ h. three (ltb q w) (member (o .touched) d) known (if-false (idle r) _ _ t h) in
+    let neither : r .phase ≡ 1 → (not (member (o .ready) d) && not (member (o .gave) d)) ≡ true =
+    λ h. if-false (waiting r) _ _ (busy (ap (λ (n : ℕ). eqb n 0) h) .2) (ap (λ (n : ℕ). eqb n 2) h) in
     record {
-      phase = leb-true (r .phase) 2 (and-left (leb (r .phase) 2) _ e);
-      none = λ h. eqb-true (r .transaction .0) 0 (if-true (idle r) _ _ t h);
-      busy = λ h. test-busy w b d r (if-false (idle r) _ _ t h);
+      phases = leb-true (r .phase) 2 (and-left (leb (r .phase) 2) _ e);
+      idleNone = λ h. eqb-true (r .transaction .0) 0 (if-true (idle r) _ _ t h);
+      busyOpen = λ h. ltb-true q w (busy h .0);
+      busyTouched = λ h. busy h .1;
+      waitingReady = λ h. if-true (waiting r) _ _ (busy (ap (λ (n : ℕ). eqb n 0) h) .2) (eq-eqb (r .phase) 2 h);
+      computingNotReady = λ h. not-true _ (and-left (not (member (o .ready) d)) _ (neither h));
+      computingNotGave = λ h. not-true _ (and-right (not (member (o .ready) d)) _ (neither h));
     }
 
-record-test : (w : ℕ) (b : Book) (d : ℕ) (r : Record) → District w b d r → soundRecord w b d r ≡ true
-unfolding soundRecord
+record-test : (w : ℕ) (b : Book) (d : ℕ) (r : Record) → DistrictRow w d (placeOf w b (r .transaction .0)) (openOf w b (r .transaction .0)) r → soundRecord w b d r ≡ true
+unfolding soundRecord soundBusy
 record-test w b d r f =
-    ap₂ _&&_ (le-leb (r .phase) 2 (f .phase))
-    (if-both (idle r) _ _ (λ h. eq-eqb (r .transaction .0) 0 (f .none h)) (λ h. busy-test w b d r (f .phase) h (f .busy h)))
+    ap₂ _&&_ (le-leb (r .phase) 2 (f .phases))
+    (if-both (idle r) _ _
+    (λ h. eq-eqb (r .transaction .0) 0 (f .idleNone h))
+    (λ h.
+    ap₂ _&&_ (ap₂ _&&_ (lt-ltb (placeOf w b (r .transaction .0)) w (f .busyOpen h)) (f .busyTouched h))
+    (if-both (waiting r) _ _
+    (λ k. f .waitingReady (eqb-true (r .phase) 2 k))
+    (λ k.
+    let one : r .phase ≡ 1 = omega (arith, f .phases, eqb-false (r .phase) 2 k, eqb-false (r .phase) 0 h) in
+    ap₂ _&&_ (ap not (f .computingNotReady one)) (ap not (f .computingNotGave one))))))
 
 -- ---- items
 
-record Row (w : ℕ) (b : Book) (x : Item) : Type 0 where
-  belongs : x .district < b .districts
-  held : soundPolyvalue w (x .held) ≡ true
-  pending : soundPolyvalue w (x .pending) ≡ true
-  same : itemOn b x ≡ 0 → x .pending ≡ x .held
-  own : 1 ≤ itemOn b x → itemDepends w x (placeOf w b (itemOn b x)) ≡ false
-  few : together (inUse (x .held)) (inUse (x .pending)) ≤ room
-
-test-row : (w : ℕ) (b : Book) (x : Item) → soundRow w b x ≡ true → Row w b x
+test-row : (w : ℕ) (b : Book) (x : Item) → soundRow w b x ≡ true → ItemRow w (b .districts) (itemOn b x) (placeOf w b (itemOn b x)) x
 unfolding soundRow soundPending
 test-row w b x e =
     let n = itemOn b x in
-    let t = five (ltb (x .district) (b .districts)) (soundPolyvalue w (x .held)) (soundPolyvalue w (x .pending)) (soundPending w b n x) (leb (together (inUse (x .held)) (inUse (x .pending))) room) e in
+    let t = five (ltb (x .district) (b .districts)) (soundPolyvalue w (x .held)) (soundPolyvalue w (x .pending)) (soundPending w b n x) (leb (together (inUse (x .held)) (inUse (x .pending))) mostPairs) e in
     record {
       belongs = ltb-true (x .district) (b .districts) (t .0);
       held = t .1;
       pending = t .2;
-      same = λ h. same-polyvalue (x .pending) (x .held) (if-true (eqb n 0) _ _ (t .3) (eq-eqb n 0 h));
-      own = λ h. not-true _ (if-false (eqb n 0) _ _ (t .3) (ne-eqb n 0 (λ z. omega arith)));
-      few = leb-true (together (inUse (x .held)) (inUse (x .pending))) room (t .4);
+      idleSame = λ h. same-polyvalue (x .pending) (x .held) (if-true (eqb n 0) _ _ (t .3) (eq-eqb n 0 h));
+      ownFree = λ h. not-true _ (if-false (eqb n 0) _ _ (t .3) (ne-eqb n 0 (λ z. omega arith)));
+      fewTogether = leb-true (together (inUse (x .held)) (inUse (x .pending))) mostPairs (t .4);
     }
 
-row-test : (w : ℕ) (b : Book) (x : Item) → Row w b x → soundRow w b x ≡ true
+row-test : (w : ℕ) (b : Book) (x : Item) → ItemRow w (b .districts) (itemOn b x) (placeOf w b (itemOn b x)) x → soundRow w b x ≡ true
 unfolding soundRow soundPending
 row-test w b x f =
     let n = itemOn b x in
     ap₂ _&&_
     (ap₂ _&&_ (ap₂ _&&_ (ap₂ _&&_ (lt-ltb (x .district) (b .districts) (f .belongs)) (f .held)) (f .pending))
-    (if-both (eqb n 0) _ _ (λ h. polyvalue-same (x .pending) (x .held) (f .same (eqb-true n 0 h))) (λ h. ap not (f .own (omega (arith, eqb-false n 0 h))))))
-    (le-leb (together (inUse (x .held)) (inUse (x .pending))) room (f .few))
+    (if-both (eqb n 0) _ _ (λ h. polyvalue-same (x .pending) (x .held) (f .idleSame (eqb-true n 0 h))) (λ h. ap not (f .ownFree (omega (arith, eqb-false n 0 h))))))
+    (le-leb (together (inUse (x .held)) (inUse (x .pending))) mostPairs (f .fewTogether))
 
 -- ---- places
 
@@ -160,15 +133,11 @@ at-test o d f =
     (λ h. f .completed (eqb-true (o .decision) 1 (and-left (eqb (o .decision) 1) u h)) (and-right (eqb (o .decision) 1) u h))
     (λ h. refl))
 
+-- the open transaction o at place q
 record Used (w : ℕ) (b : Book) (q : ℕ) (o : Open) : Type 0 where
-  touched : o .touched < 2 ^ b .districts
-  ready : o .ready < 2 ^ b .districts
-  gave : o .gave < 2 ^ b .districts
-  decision : o .decision ≤ 2
+  row : OpenRow (b .districts) (b .last .0) o
   differ : (p : ℕ) → p < q → openAt b p .number .0 ≡ o .number .0 → ⊥
-  given : o .number .0 ≤ b .last .0
   needs : 1 ≤ o .decision → needed w b q o ≡ true
-  at : (d : ℕ) → d < b .districts → At o d
 
 test-open : (w : ℕ) (b : Book) (q : ℕ) (o : Open) → soundOpen w b q o ≡ true → Used w b q o
 unfolding soundOpen
@@ -177,87 +146,72 @@ test-open w b q o e =
     let n = 2 ^ b .districts in
     let t = eight (ltb (o .touched) n) (ltb (o .ready) n) (ltb (o .gave) n) (leb (o .decision) 2) (all q apart) (leb (o .number .0) (b .last .0))
     (cond (decided o) (needed w b q o) true) (all (b .districts) (soundAt o)) e in
+    let at : (d : ℕ) → d < b .districts → At o d = λ d h. test-at o d (all-at (b .districts) (soundAt o) (t .7) d h) in
     record {
-      touched = ltb-true (o .touched) n (t .0);
-      ready = ltb-true (o .ready) n (t .1);
-      gave = ltb-true (o .gave) n (t .2);
-      decision = leb-true (o .decision) 2 (t .3);
+      row = record {
+        touched = ltb-true (o .touched) n (t .0);
+        ready = ltb-true (o .ready) n (t .1);
+        gave = ltb-true (o .gave) n (t .2);
+        decisions = leb-true (o .decision) 2 (t .3);
+        given = leb-true (o .number .0) (b .last .0) (t .5);
+        apart = λ d h. at d h .apart;
+        readyTouched = λ d h. at d h .ready;
+        gaveTouched = λ d h. at d h .gave;
+        completedReady = λ c d h. at d h .completed c;
+      };
       differ = λ p h. eqb-false (openAt b p .number .0) (o .number .0) (not-true _ (all-at q apart (t .4) p h));
-      given = leb-true (o .number .0) (b .last .0) (t .5);
       needs = λ h. if-true (decided o) _ _ (t .6) (ap not (ne-eqb (o .decision) 0 (λ z. omega arith)));
-      at = λ d h. test-at o d (all-at (b .districts) (soundAt o) (t .7) d h);
     }
 
 open-test : (w : ℕ) (b : Book) (q : ℕ) (o : Open) → Used w b q o → soundOpen w b q o ≡ true
 unfolding soundOpen
 open-test w b q o f =
     let n = 2 ^ b .districts in
+    let r = f .row in
     ap₂ _&&_ (ap₂ _&&_ (ap₂ _&&_ (ap₂ _&&_ (ap₂ _&&_ (ap₂ _&&_ (ap₂ _&&_
-    (lt-ltb (o .touched) n (f .touched))
-    (lt-ltb (o .ready) n (f .ready)))
-    (lt-ltb (o .gave) n (f .gave)))
-    (le-leb (o .decision) 2 (f .decision)))
+    (lt-ltb (o .touched) n (r .touched))
+    (lt-ltb (o .ready) n (r .ready)))
+    (lt-ltb (o .gave) n (r .gave)))
+    (le-leb (o .decision) 2 (r .decisions)))
     (all-of q (λ p. not (eqb (openAt b p .number .0) (o .number .0))) (λ p h. ap not (ne-eqb (openAt b p .number .0) (o .number .0) (f .differ p h)))))
-    (le-leb (o .number .0) (b .last .0) (f .given)))
+    (le-leb (o .number .0) (b .last .0) (r .given)))
     (if-both (decided o) _ _ (λ h. f .needs (omega (arith, eqb-false (o .decision) 0 (not-true _ h)))) (λ h. refl)))
-    (all-of (b .districts) (soundAt o) (λ d h. at-test o d (f .at d h)))
+    (all-of (b .districts) (soundAt o) (λ d h. at-test o d (record { apart = r .apart d h; ready = r .readyTouched d h; gave = r .gaveTouched d h; completed = λ c. r .completedReady c d h })))
 
 -- ---- the book
 
 pub test-sound : (w : ℕ) (b : Book) → sound w b ≡ true → Sound w b
-unfolding sound soundDistrict soundItem soundPlace
+unfolding sound soundDistrict soundItem soundPlace someDepends
 test-sound w b e =
     let t = eight (leb 1 (b .districts)) (leb (b .districts) mostDistricts) (leb 1 (b .count)) (leb (b .count) mostItems) (leb (b .last .0) lastNumber)
     (all mostDistricts (soundDistrict w b)) (all mostItems (soundItem w b)) (all w (soundPlace w b)) e in
     let fewD : b .districts ≤ mostDistricts = leb-true (b .districts) mostDistricts (t .1) in
     let fewI : b .count ≤ mostItems = leb-true (b .count) mostItems (t .3) in
-    let district : (d : ℕ) → d < b .districts → District w b d (recordAt b d) =
-    λ d h. test-record w b d (recordAt b d) (if-true (ltb d (b .districts)) _ _ (all-at mostDistricts (soundDistrict w b) (t .5) d (omega arith)) (lt-ltb d (b .districts) h)) in
-    let row : (i : ℕ) → i < b .count → Row w b (itemAt b i) =
-    λ i h. test-row w b (itemAt b i) (if-true (ltb i (b .count)) _ _ (all-at mostItems (soundItem w b) (t .6) i (omega arith)) (lt-ltb i (b .count) h)) in
     let used : (q : ℕ) → q < w → isOpen (openAt b q) ≡ true → Used w b q (openAt b q) =
     λ q h k. test-open w b q (openAt b q) (if-true (isOpen (openAt b q)) _ _ (all-at w (soundPlace w b) (t .7) q h) k) in
     let vacant : (q : ℕ) → q < w → isOpen (openAt b q) ≡ false → (zeroOpen (openAt b q) && not (someDepends w b q)) ≡ true =
     λ q h k. if-false (isOpen (openAt b q)) _ _ (all-at w (soundPlace w b) (t .7) q h) k in
-    record {
+    but-sound w b (record {
       someDistricts = leb-true 1 (b .districts) (t .0);
       fewDistricts = fewD;
       someItems = leb-true 1 (b .count) (t .2);
       fewItems = fewI;
-      belongs = λ i h. row i h .belongs;
-      held = λ i h. row i h .held;
-      pending = λ i h. row i h .pending;
-      phases = λ d h. district d h .phase;
       last = leb-true (b .last .0) lastNumber (t .4);
-      touched = λ q h k. used q h k .touched;
-      ready = λ q h k. used q h k .ready;
-      gave = λ q h k. used q h k .gave;
-      decisions = λ q h k. used q h k .decision;
+      districts = λ d h. test-record w b d (recordAt b d) (if-true (ltb d (b .districts)) _ _ (all-at mostDistricts (soundDistrict w b) (t .5) d (omega arith)) (lt-ltb d (b .districts) h));
+      items = λ i h. test-row w b (itemAt b i) (if-true (ltb i (b .count)) _ _ (all-at mostItems (soundItem w b) (t .6) i (omega arith)) (lt-ltb i (b .count) h));
+      opens = λ q h k. used q h k .row;
+      differ = λ q h k. used q h k .differ;
       pastDistricts = λ d h k. zero-record (recordAt b d) (if-false (ltb d (b .districts)) _ _ (all-at mostDistricts (soundDistrict w b) (t .5) d h) (le-ltb d (b .districts) k));
       pastItems = λ i h k. same-item (itemAt b i) noItem (if-false (ltb i (b .count)) _ _ (all-at mostItems (soundItem w b) (t .6) i h) (le-ltb i (b .count) k));
       free = λ q h k. zero-open (openAt b q) (and-left (zeroOpen (openAt b q)) _ (vacant q h k));
-      freeUnused = λ q h k. not-true _ (and-right (zeroOpen (openAt b q)) _ (vacant q h k));
-      differ = λ q h k. used q h k .differ;
-      given = λ q h k. used q h k .given;
-      idleNone = λ d h. district d h .none;
-      decidedNeeded = λ q h k. used q h k .needs;
-      busyOpen = λ d h k. district d h .busy k .place;
-      busyTouched = λ d h k. district d h .busy k .touched;
-      waitingReady = λ d h k. district d h .busy (ap (λ (n : ℕ). eqb n 0) k) .ready k;
-      computingNotReady = λ d h k. district d h .busy (ap (λ (n : ℕ). eqb n 0) k) .notReady k;
-      computingNotGave = λ d h k. district d h .busy (ap (λ (n : ℕ). eqb n 0) k) .notGave k;
-      apart = λ q h k d l. used q h k .at d l .apart;
-      readyTouched = λ q h k d l. used q h k .at d l .ready;
-      gaveTouched = λ q h k d l. used q h k .at d l .gave;
-      completedReady = λ q h k c d l. used q h k .at d l .completed c;
-      idleSame = λ i h. row i h .same;
-      ownFree = λ i h. row i h .own;
-      fewTogether = λ i h. row i h .few;
-    }
+      freeUnused = λ q h k. any-none (b .count) (λ i. itemDepends w (itemAt b i) q) (not-true _ (and-right (zeroOpen (openAt b q)) _ (vacant q h k)));
+    })
+    (λ q h k. used q h k .needs)
 
 pub sound-test : (w : ℕ) (b : Book) → Sound w b → sound w b ≡ true
 unfolding sound soundDistrict soundItem soundPlace
 sound-test w b s =
+    let t = sound-but w b s in
     ap₂ _&&_ (ap₂ _&&_ (ap₂ _&&_ (ap₂ _&&_ (ap₂ _&&_ (ap₂ _&&_ (ap₂ _&&_
     (le-leb 1 (b .districts) (s .someDistricts))
     (le-leb (b .districts) mostDistricts (s .fewDistricts)))
@@ -266,59 +220,16 @@ sound-test w b s =
     (le-leb (b .last .0) lastNumber (s .last)))
     (all-of mostDistricts (soundDistrict w b) (λ d l.
     if-both (ltb d (b .districts)) _ _
-    (λ t. district d (ltb-true d (b .districts) t))
-    (λ t. record-zero (recordAt b d) (s .pastDistricts d l (omega (arith, ltb-false d (b .districts) t)))))))
+    (λ e. record-test w b d (recordAt b d) (t .districts d (ltb-true d (b .districts) e)))
+    (λ e. record-zero (recordAt b d) (s .pastDistricts d l (omega (arith, ltb-false d (b .districts) e)))))))
     (all-of mostItems (soundItem w b) (λ i l.
     if-both (ltb i (b .count)) _ _
-    (λ t. item i (ltb-true i (b .count) t))
-    (λ t. item-same (itemAt b i) noItem (s .pastItems i l (omega (arith, ltb-false i (b .count) t)))))))
+    (λ e. row-test w b (itemAt b i) (t .items i (ltb-true i (b .count) e)))
+    (λ e. item-same (itemAt b i) noItem (s .pastItems i l (omega (arith, ltb-false i (b .count) e)))))))
     (all-of w (soundPlace w b) (λ q l.
     if-both (isOpen (openAt b q)) _ _
-    (λ t. used q l t)
-    (λ t. ap₂ _&&_ (open-zero (openAt b q) (s .free q l t)) (ap not (s .freeUnused q l t)))))
-  where
-    district : (d : ℕ) → d < b .districts → soundRecord w b d (recordAt b d) ≡ true
-    district d h =
-        record-test w b d (recordAt b d) (record {
-          phase = s .phases d h;
-          none = s .idleNone d h;
-          busy = λ k. record {
-            place = s .busyOpen d h k;
-            touched = s .busyTouched d h k;
-            ready = s .waitingReady d h;
-            notReady = s .computingNotReady d h;
-            notGave = s .computingNotGave d h;
-          };
-        })
-
-    item : (i : ℕ) → i < b .count → soundRow w b (itemAt b i) ≡ true
-    item i h =
-        row-test w b (itemAt b i) (record {
-          belongs = s .belongs i h;
-          held = s .held i h;
-          pending = s .pending i h;
-          same = s .idleSame i h;
-          own = s .ownFree i h;
-          few = s .fewTogether i h;
-        })
-
-    used : (q : ℕ) → q < w → isOpen (openAt b q) ≡ true → soundOpen w b q (openAt b q) ≡ true
-    used q h k =
-        open-test w b q (openAt b q) (record {
-          touched = s .touched q h k;
-          ready = s .ready q h k;
-          gave = s .gave q h k;
-          decision = s .decisions q h k;
-          differ = s .differ q h k;
-          given = s .given q h k;
-          needs = s .decidedNeeded q h k;
-          at = λ d l. record {
-            apart = s .apart q h k d l;
-            ready = s .readyTouched q h k d l;
-            gave = s .gaveTouched q h k d l;
-            completed = λ c. s .completedReady q h k c d l;
-          };
-        })
+    (λ e. open-test w b q (openAt b q) (record { row = t .opens q l e; differ = s .differ q l e; needs = s .decidedNeeded q l e }))
+    (λ e. ap₂ _&&_ (open-zero (openAt b q) (s .free q l e)) (ap not (s .freeUnused q l e)))))
 
 -- ---- what a sound book is read by
 

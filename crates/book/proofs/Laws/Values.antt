@@ -20,12 +20,11 @@ use Rattle.polyvalues.proofs.Laws.Packed.{inUse-packed, sound-well-formed}
 use Rattle.book.specs.declared.Item.{Item}
 use Rattle.book.specs.declared.Step.{Step}
 use Rattle.book.specs.declared.Book.{Book}
-use Rattle.book.specs.Book.{voidItem, recordAt, itemAt, placeOf}
+use Rattle.book.specs.Book.{voidItem, recordAt, itemAt, placeOf, openOf}
 use Rattle.book.specs.Programs.{run, touches}
 use Rattle.book.specs.Records.{computingOn}
 use Rattle.book.specs.Items.{there, concerned, install, drop, split, reduceItem}
 use Rattle.book.specs.Forget.{forget}
-use Rattle.book.specs.Transactions.{openOf}
 use Rattle.book.specs.Begin.{heldAt, results, beginItem, begun}
 use Rattle.book.specs.Ready.{readied}
 use Rattle.book.specs.GiveUp.{giveUpItem, gaveUp}

@@ -14,7 +14,7 @@ use Rattle.polyvalues.specs.declared.polyvalue.Pair.{Pair}
 use Rattle.polyvalues.specs.declared.polyvalue.Polyvalue.{Polyvalue}
 use Rattle.polyvalues.specs.Values.{equal}
 use Rattle.polyvalues.specs.Pairs.{assignments, noPair}
-use Rattle.polyvalues.specs.Polyvalues.{each, room, sound, WellFormed, wellFormed, rowsOf, inUse, tidy, padded, packed}
+use Rattle.polyvalues.specs.Polyvalues.{each, mostPairs, sound, WellFormed, wellFormed, rowsOf, inUse, tidy, padded, packed}
 use Rattle.polyvalues.proofs.Laws.Values.{equal-true}
 use Rattle.polyvalues.proofs.Laws.Holds.{same-pair}
 use Rattle.polyvalues.proofs.Laws.Paired.{rows-packed, values-paired, conditions-paired, AllRows, rows-long}
@@ -22,23 +22,23 @@ use Rattle.polyvalues.proofs.Laws.WellFormed.{well-formed-true, true-we
 
 pub inUse-packed : (ps : List Pair) → inUse (packed ps) ≡ ps
 unfolding inUse packed
-inUse-packed ps = rw (rows-packed ps) (take-append-seam ps (replicate (room - length ps) noPair))
+inUse-packed ps = rw (rows-packed ps) (take-append-seam ps (replicate (mostPairs - length ps) noPair))
 
 tidy-packed : (ps : List Pair) → tidy (packed ps) ≡ true
 unfolding tidy packed
-tidy-packed ps = rw (rows-packed ps, drop-append-seam ps (replicate (room - length ps) noPair)) (blanks (room - length ps))
+tidy-packed ps = rw (rows-packed ps, drop-append-seam ps (replicate (mostPairs - length ps) noPair)) (blanks (mostPairs - length ps))
   where
     blanks : (n : ℕ) → each (λ p. equal (p .value) (pos 0) && eqb (assignments p) 0) (replicate n noPair) ≡ true
     blanks zero = refl
     blanks (suc n) = blanks n
 
-packed-tidy : (q : Polyvalue) → q .count ≤ room → AllRows q → tidy q ≡ true → packed (inUse q) ≡ q
+packed-tidy : (q : Polyvalue) → q .count ≤ mostPairs → AllRows q → tidy q ≡ true → packed (inUse q) ≡ q
 unfolding inUse tidy packed
 packed-tidy q c all t =
-    let l : length (rowsOf q) ≡ room = rows-long all in
+    let l : length (rowsOf q) ≡ mostPairs = rows-long all in
     let e : length (q .values) ≡ length (q .conditions) = all .values ∙ sym (all .conditions) in
     let count : length (take (q .count) (rowsOf q)) ≡ q .count = length-take-le (q .count) (rowsOf q) (omega arith) in
-    let past : room - length (take (q .count) (rowsOf q)) ≡ length (drop (q .count) (rowsOf q)) = omega (arith, length-drop (q .count) (rowsOf q)) in
+    let past : mostPairs - length (take (q .count) (rowsOf q)) ≡ length (drop (q .count) (rowsOf q)) = omega (arith, length-drop (q .count) (rowsOf q)) in
     let rows : padded (take (q .count) (rowsOf q)) ≡ rowsOf q =
     ap (λ n. take (q .count) (rowsOf q) ++ replicate n noPair) past
     ∙ ap (λ r. take (q .count) (rowsOf q) ++ r) (sym (blank (drop (q .count) (rowsOf q)) t))
@@ -57,15 +57,15 @@ packed-tidy q c all t =
 
 pub packed-sound : (w : ℕ) (ps : List Pair) → WellFormed w ps → sound w (packed ps) ≡ true
 unfolding sound packed
-packed-sound w ps f = ap₂ _&&_ (le-leb (length ps) room (f .few)) (ap₂ _&&_ (tidy-packed ps) (ap (wellFormed w) (inUse-packed ps) ∙ well-formed-true w ps f))
+packed-sound w ps f = ap₂ _&&_ (le-leb (length ps) mostPairs (f .few)) (ap₂ _&&_ (tidy-packed ps) (ap (wellFormed w) (inUse-packed ps) ∙ well-formed-true w ps f))
 
 pub sound-well-formed : (w : ℕ) (q : Polyvalue) → sound w q ≡ true → WellFormed w (inUse q)
 unfolding sound
-sound-well-formed w q e = true-well-formed w (inUse q) (and-right (tidy q) _ (and-right (leb (q .count) room) _ e))
+sound-well-formed w q e = true-well-formed w (inUse q) (and-right (tidy q) _ (and-right (leb (q .count) mostPairs) _ e))
 
 -- a sound polyvalue is known by its pairs
 pub sound-packed : (w : ℕ) (q : Polyvalue) → AllRows q → sound w q ≡ true → packed (inUse q) ≡ q
 unfolding sound
 sound-packed w q l e =
-    packed-tidy q (leb-true (q .count) room (and-left (leb (q .count) room) _ e)) l
-    (and-left (tidy q) _ (and-right (leb (q .count) room) _ e))
+    packed-tidy q (leb-true (q .count) mostPairs (and-left (leb (q .count) mostPairs) _ e)) l
+    (and-left (tidy q) _ (and-right (leb (q .count) mostPairs) _ e))

@@ -10,7 +10,7 @@ use Rattle.conditions.specs.Conditions.{ofNumber}
 use Rattle.polyvalues.specs.declared.polyvalue.Pair.{Pair}
 use Rattle.polyvalues.specs.declared.polyvalue.Polyvalue.{Polyvalue}
 use Rattle.polyvalues.specs.Pairs.{noPair}
-use Rattle.polyvalues.specs.Polyvalues.{room, paired, padded, rowsOf, packed}
+use Rattle.polyvalues.specs.Polyvalues.{mostPairs, paired, padded, rowsOf, packed}
 
 -- the values and the conditions of rows make these rows
 pub paired-of : (ps : List Pair) → paired (map (λ p. p .value) ps) (map (λ p. p .condition) ps) ≡ ps
@@ -58,14 +58,14 @@ paired-at (v ∷ vs) (c ∷ cs) (suc i) e = paired-at vs cs i (omega arith)
 
 -- q has all its rows, as every polyvalue that code holds
 pub record AllRows (q : Polyvalue) : Type 0 where
-  pub values : length (q .values) ≡ room
-  pub conditions : length (q .conditions) ≡ room
+  pub values : length (q .values) ≡ mostPairs
+  pub conditions : length (q .conditions) ≡ mostPairs
 
-pub rows-long : {q : Polyvalue} → AllRows q → length (rowsOf q) ≡ room
+pub rows-long : {q : Polyvalue} → AllRows q → length (rowsOf q) ≡ mostPairs
 rows-long {q} all = length-paired (q .values) (q .conditions) (all .values ∙ sym (all .conditions)) ∙ all .values
 
-pub packed-rows : (ps : List Pair) → length ps ≤ room → AllRows (packed ps)
+pub packed-rows : (ps : List Pair) → length ps ≤ mostPairs → AllRows (packed ps)
 unfolding packed
 packed-rows ps h =
-    let long : length (padded ps) ≡ room = omega (arith, length-append ps (replicate (room - length ps) noPair), length-replicate (room - length ps) noPair) in
+    let long : length (padded ps) ≡ mostPairs = omega (arith, length-append ps (replicate (mostPairs - length ps) noPair), length-replicate (mostPairs - length ps) noPair) in
     record { values = length-map (padded ps) (λ p. p .value) ∙ long; conditions = length-map (padded ps) (λ p. p .condition) ∙ long }

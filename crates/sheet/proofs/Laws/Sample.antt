@@ -41,7 +41,7 @@ use Rattle.sheet.specs.Events.{program, atDistrict, onNumber, ofItem, fi
 use Rattle.sheet.specs.Sections.{code, districts, value, item, itemMore, items, events, sheet}
 use Rattle.sheet.specs.Open.{refused, openedSheet, openSheet}
 use Rattle.sheet.specs.Lines.{line, eventLine, refusalLine, endLine, lineAnswer, lineWritten}
-use Rattle.sheet.specs.Play.{ofShow, outcome, played, playedBuffer}
+use Rattle.sheet.specs.Play.{ofShow, eventResult, played, playedBuffer}
 use Rattle.sheet.specs.Output.{eventLines, printed, output}
 use Rattle.sheet.specs.Sample.{sample, samplePrinted}
 
@@ -59,7 +59,7 @@ same-text (b ∷ l) [] e = absurd (false≢true e)
 same-text (b ∷ l) (c ∷ m) e = ap₂ _∷_ (eqb-true b c (and-left (eqb b c) _ e)) (same-text l m (and-right (eqb b c) _ e))
 
 test : same (output places sample) samplePrinted ≡ true
-unfolding all any first those setOf odd member withPlace full union intersection complement empty lowest completed selected reduced dependsOn tagAt allows allowed within dropped needed prime primes primeFrom digits decimal prefixed joined tagText tagsText productText conditionText answer written inRange sum signed ofBytes valueText asked depends certain wellFormed inUse tidy sound packed fitted insert join simplifiedFrom simplified tableBelow canonOver canon reduce select different together pairText lineText firstOf rowsFrom noItem noBook recordOn itemOn placeOf freePlace itemDepends someDepends someOn steps declines after afterAll declinedFrom run names touches neededBookForget remembered forget samePolyvalue sameItem zeroRecord zeroOpen soundBusy soundRecord soundDistrict soundPending soundRow soundItem soundAt soundOpen soundPlace soundBookSoundTest computingOn waitingOn busyOn hearRecord concerned split reduceItem done goodOpening openedItem openedBook opened badStep badProgram outside results grant someBusy tooMany beginAnswer touchesDistrict beginItem begun begin readyAnswer readied ready giveUpAnswer giveUpItem gaveUp giveUp someNotReady completeAnswer abortAnswer decide complete abort hearAnswer hearItem heard hear heldLine showAnswer shown show repeat byte word part end program atDistrict onNumber ofItem fields event oneMore eventAt code districts value item itemMore items events sheet refused openedSheet openSheet line eventLine refusalLine endLine lineAnswer lineWritten ofShow outcome played playedBuffer eventLines printed output
+unfolding all any first those setOf odd member withPlace full union intersection complement empty lowest completed selected reduced dependsOn tagAt allows allowed within dropped needed prime primes primeFrom digits decimal prefixed joined tagText tagsText productText conditionText answer written inRange sum signed ofBytes valueText asked depends certain wellFormed inUse tidy sound packed fitted insert join simplifiedFrom simplified tableBelow canonOver canon reduce select different together pairText lineText firstOf rowsFrom noItem noBook recordOn itemOn placeOf freePlace itemDepends someDepends someOn steps declines after afterAll declinedFrom run names touches neededBookForget remembered forget samePolyvalue sameItem zeroRecord zeroOpen soundBusy soundRecord soundDistrict soundPending soundRow soundItem soundAt soundOpen soundPlace soundBookSoundTest computingOn waitingOn busyOn hearRecord concerned split reduceItem done goodOpening openedItem openedBook opened badStep badProgram outside results grant someBusy tooMany beginAnswer touchesDistrict beginItem begun begin readyAnswer readied ready giveUpAnswer giveUpItem gaveUp giveUp someNotReady completeAnswer abortAnswer decide complete abort hearAnswer hearItem heard hear heldLine showAnswer shown show repeat byte word part end program atDistrict onNumber ofItem fields event oneMore eventAt code districts value item itemMore items events sheet refused openedSheet openSheet line eventLine refusalLine endLine lineAnswer lineWritten ofShow eventResult played playedBuffer eventLines printed output
 test = refl
 
 pub sample-printed : output places sample ≡ samplePrinted

@@ -15,9 +15,9 @@ use Rattle.sheet.specs.Events.{event, oneMore, answered, eventAt}
 use Rattle.sheet.specs.Sections.{Events, Sheet, districts, items, events, sheet}
 use Rattle.sheet.specs.Open.{tooLong, refused, openedSheet, openSheet}
 use Rattle.sheet.specs.Lines.{refusalLine, endLine}
-use Rattle.sheet.specs.Play.{Outcome, outcome, outcomeLine}
+use Rattle.sheet.specs.Play.{EventResult, eventResult, resultLine}
 use Rattle.sheet.specs.Output.{eventLines, printed, output}
-use Rattle.sheet.specs.Program.{playedFrom, byCalls, Stand, AsRead}
+use Rattle.sheet.specs.Program.{printedFrom, byCalls, Stand, AsRead}
 use Rattle.sheet.proofs.Laws.Open.{first-read, all-read}
 use Rattle.sheet.proofs.Laws.Places.{leaves-word, leaves-event, leaves-districts, leaves-items}
 
@@ -73,21 +73,21 @@ module _ (s : List ℕ) where
 -- ---- so the calls print what is said of the sheet as it was read
 
 module _ (w : ℕ) (s : List ℕ) where
-  plays-each : (es : List Event) (b : Book) (position at : ℕ) → Stand s at es → playedFrom w s (length es) b position at ≡ eventLines w b s position es ++ endLine
-  unfolding playedFrom eventLines
+  plays-each : (es : List Event) (b : Book) (position at : ℕ) → Stand s at es → printedFrom w s (length es) b position at ≡ eventLines w b s position es ++ endLine
+  unfolding printedFrom eventLines
   plays-each [] b position at k = refl
   plays-each (e ∷ es) b position at k =
-      let x : Outcome = outcome w b s e in
+      let x : EventResult = eventResult w b s e in
       rw (k .1)
-      (ap (λ (t : List ℕ). outcomeLine position x ++ t) (plays-each es (x .book) (suc position) (k .0) (k .2))
-      ∙ sym (append-assoc (outcomeLine position x) (eventLines w (x .book) s (suc position) es) endLine))
+      (ap (λ (t : List ℕ). resultLine position x ++ t) (plays-each es (x .book) (suc position) (k .0) (k .2))
+      ∙ sym (append-assoc (resultLine position x) (eventLines w (x .book) s (suc position) es) endLine))
 
   pub by-calls : byCalls w s ≡ output w s
   unfolding byCalls output openSheet openedSheet refused printed
   by-calls = by-cases (tooLong s) (λ t. rw t) (λ t. rw t (go (sheet s) refl))
     where
       go : (r : Read Sheet) → sheet s ≡ r
-          → cond (accepted (openedSheet w r .answer)) (playedFrom w s (openedSheet w r .count) (openedSheet w r .book) 1 (openedSheet w r .first)) (refusalLine (openedSheet w r .answer) (openedSheet w r .place))
+          → cond (accepted (openedSheet w r .answer)) (printedFrom w s (openedSheet w r .count) (openedSheet w r .book) 1 (openedSheet w r .first)) (refusalLine (openedSheet w r .answer) (openedSheet w r .place))
           ≡ printed w s r
       go (wrong place) q = refl
       go (right x at rest) q = let found = sheet-found s q in rw (sym (found .many)) (plays-each (x .events .each) _ 1 (x .events .first) (found .found))

@@ -67,7 +67,7 @@ unfolding soundItem
 loop-again c = (
   omega arith,
   rw add-one (all-more _ _ (c .before .before .before .before .before .loop .inv .1) (item-row width (c .before .before .before .before .before .before .before .before .before .before .args .t1) (omega arith) ∙ sym (c .before .sound-row .ensures (c .before .before .before .before .before .before .before .before .before .before .args .t1) refl refl refl (c .before .before .places-of .ensures)) ∙ not-false _ (c .if2 .left))),
-  needed-more width (c .before .before .before .before .before .before .before .before .before .before .args .t1) (c .before .before .before .before .before .loop .i) (c .before .before .before .before .before .loop .needed) (c .before .before .before .before .before .loop .inv .2) (c .before .before .places-of .ensures),
+  needed-more width (c .before .before .before .before .before .before .before .before .before .before .args .t1) (c .before .before .before .before .before .loop .i) (c .before .before .before .before .before .loop .depended) (c .before .before .before .before .before .loop .inv .2) (c .before .before .places-of .ensures),
 )
 
 loop2-holds : tie.Need-loop2-holds Inv-loop μ-loop Inv-loop2 μ-loop2
@@ -106,7 +106,7 @@ sound-districts-requires c κs = search needs
 
 returns-4 : tie.Need-returns-4 Inv-loop μ-loop Inv-loop2 μ-loop2
 unfolding sound
-returns-4 c = rw (sym (c .before .sound-districts .ensures (c .before .before .before .before .before .before .before .before .before .before .before .args .t1) (let last : c .before .before .before .before .before .before .loop .i ≡ c .before .before .before .before .before .before .before .before .before .before .before .args .t1 .count = omega (arith, c .before .before .before .before .before .before .loop .inv .0) in record { last = refl; districts = refl; records = refl; places = refl; needed = all-needed width (c .before .before .before .before .before .before .before .before .before .before .before .args .t1) (c .before .before .before .before .before .before .loop .needed) last (c .before .before .before .before .before .before .loop .inv .2) })) ∙ not-true _ (c .if4 .taken), and-false)
+returns-4 c = rw (sym (c .before .sound-districts .ensures (c .before .before .before .before .before .before .before .before .before .before .before .args .t1) (let last : c .before .before .before .before .before .before .loop .i ≡ c .before .before .before .before .before .before .before .before .before .before .before .args .t1 .count = omega (arith, c .before .before .before .before .before .before .loop .inv .0) in record { last = refl; districts = refl; records = refl; places = refl; depended = all-needed width (c .before .before .before .before .before .before .before .before .before .before .before .args .t1) (c .before .before .before .before .before .before .loop .depended) last (c .before .before .before .before .before .before .loop .inv .2) })) ∙ not-true _ (c .if4 .taken), and-false)
 
 sound-places-requires : tie.Need-sound-places-requires Inv-loop μ-loop Inv-loop2 μ-loop2
 sound-places-requires c κs = few-rows (c .before .before .before .before .before .before .before .before .before .before .before .args .t1 .districts) (c .before .before .before .before .before .before .before .before .before .before .before .args .t1 .count) (c .before .before .before .before .before .before .before .before .before .before .sound-counts .ensures) (c .before .before .before .before .before .before .before .before .before .if1 .left) .0
@@ -114,7 +114,7 @@ sound-places-requires c κs = few-rows (c .before .before .before .before .befor
 returns-5 : tie.Need-returns-5 Inv-loop μ-loop Inv-loop2 μ-loop2
 unfolding sound
 returns-5 c =
-    let tables : TablesOf width (c .before .before .before .before .before .before .before .before .before .before .before .before .args .t1) _ = (let last : c .before .before .before .before .before .before .before .loop .i ≡ c .before .before .before .before .before .before .before .before .before .before .before .before .args .t1 .count = omega (arith, c .before .before .before .before .before .before .before .loop .inv .0) in record { last = refl; districts = refl; records = refl; places = refl; needed = all-needed width (c .before .before .before .before .before .before .before .before .before .before .before .before .args .t1) (c .before .before .before .before .before .before .before .loop .needed) last (c .before .before .before .before .before .before .before .loop .inv .2) }) in
+    let tables : TablesOf width (c .before .before .before .before .before .before .before .before .before .before .before .before .args .t1) _ = (let last : c .before .before .before .before .before .before .before .loop .i ≡ c .before .before .before .before .before .before .before .before .before .before .before .before .args .t1 .count = omega (arith, c .before .before .before .before .before .before .before .loop .inv .0) in record { last = refl; districts = refl; records = refl; places = refl; depended = all-needed width (c .before .before .before .before .before .before .before .before .before .before .before .before .args .t1) (c .before .before .before .before .before .before .before .loop .depended) last (c .before .before .before .before .before .before .before .loop .inv .2) }) in
     let last : c .before .before .before .before .before .loop2 .i ≡ mostItems = omega (arith, c .before .before .before .before .before .loop2 .inv .1) in
     c .sound-places .ensures (c .before .before .before .before .before .before .before .before .before .before .before .before .args .t1) tables
     ∙ rw (

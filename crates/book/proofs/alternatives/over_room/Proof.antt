@@ -3,7 +3,7 @@ use borrow.Author.Needs.{needs}
 use mathlib.Core.Path.{ap}
 use Prim.Native.Nat.{ℕ}
 use lib.Dec.{ltb}
-use Rattle.polyvalues.specs.Polyvalues.{room}
+use Rattle.polyvalues.specs.Polyvalues.{mostPairs}
 use Rattle.book.proofs.alternatives.over_room.Statement.{statement}
 use Rattle.book.proofs.alternatives.over_room.Tie as tie
 
@@ -11,7 +11,7 @@ together-requires : tie.Need-together-requires
 together-requires c κs = search needs
 
 returns : tie.Need-returns
-returns c = rw (c .before .if1 .taken) (ap (λ (n : ℕ). ltb room n) (c .together .ensures))
+returns c = rw (c .before .if1 .taken) (ap (λ (n : ℕ). ltb mostPairs n) (c .together .ensures))
 
 returns-2 : tie.Need-returns-2
 returns-2 c = search needs

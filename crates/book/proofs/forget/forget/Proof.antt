@@ -37,7 +37,7 @@ loop-less : tie.Need-loop-less Inv-loop μ-loop
 loop-less c = omega arith
 
 loop-again : tie.Need-loop-again Inv-loop μ-loop
-loop-again c = (omega arith, needed-more width (c .before .before .before .before .args .t1) (c .before .before .before .loop .i) (c .before .before .before .loop .needed) (c .before .before .before .loop .inv .1) (c .places-of .ensures))
+loop-again c = (omega arith, needed-more width (c .before .before .before .before .args .t1) (c .before .before .before .loop .i) (c .before .before .before .loop .depended) (c .before .before .before .loop .inv .1) (c .places-of .ensures))
 
 remembered-places-requires : tie.Need-remembered-places-requires Inv-loop μ-loop
 remembered-places-requires c κs = c .before .before .before .before .before .pre .0
@@ -46,8 +46,8 @@ returns : tie.Need-returns Inv-loop μ-loop
 unfolding forget
 returns c =
     let last : c .before .before .before .before .before .loop .i ≡ c .before .before .before .before .before .before .args .t1 .count = omega (arith, c .before .before .before .before .before .loop .inv .0) in
-    let needed = all-needed width (c .before .before .before .before .before .before .args .t1) (c .before .before .before .before .before .loop .needed) last (c .before .before .before .before .before .loop .inv .1) in
-    ap (λ (l : List Open). withOpen (c .before .before .before .before .before .before .args .t1) l) (c .remembered-places .ensures (c .before .before .before .before .before .before .args .t1) (record { last = refl; districts = refl; records = refl; places = refl; needed = needed }))
+    let needed = all-needed width (c .before .before .before .before .before .before .args .t1) (c .before .before .before .before .before .loop .depended) last (c .before .before .before .before .before .loop .inv .1) in
+    ap (λ (l : List Open). withOpen (c .before .before .before .before .before .before .args .t1) l) (c .remembered-places .ensures (c .before .before .before .before .before .before .args .t1) (record { last = refl; districts = refl; records = refl; places = refl; depended = needed }))
 
 pub forget-spec : {M : Type 1} → statement M
 forget-spec =

@@ -23,11 +23,11 @@ has-requires c κs = search needs
 
 returns-3 : tie.Need-returns-3
 unfolding remembered needed someOn
-returns-3 c b o = rw (sym (c .before .has .ensures ∙ o .needed (c .before .before .before .before .before .before .before .args .q) (c .before .before .before .before .before .before .before .pre .1)) ∙ c .if3 .taken, o .districts, o .records, ne-eqb _ 0 (c .before .before .before .before .before .if1 .left), sym (c .before .before .before .some-on .ensures) ∙ c .before .before .if2 .left)
+returns-3 c b o = rw (sym (c .before .has .ensures ∙ o .depended (c .before .before .before .before .before .before .before .args .q) (c .before .before .before .before .before .before .before .pre .1)) ∙ c .if3 .taken, o .districts, o .records, ne-eqb _ 0 (c .before .before .before .before .before .if1 .left), sym (c .before .before .before .some-on .ensures) ∙ c .before .before .if2 .left)
 
 returns-4 : tie.Need-returns-4
 unfolding remembered needed someOn
-returns-4 c b o = rw (sym (c .before .has .ensures ∙ o .needed (c .before .before .before .before .before .before .before .args .q) (c .before .before .before .before .before .before .before .pre .1)) ∙ c .if3 .left, o .districts, o .records, ne-eqb _ 0 (c .before .before .before .before .before .if1 .left), sym (c .before .before .before .some-on .ensures) ∙ c .before .before .if2 .left)
+returns-4 c b o = rw (sym (c .before .has .ensures ∙ o .depended (c .before .before .before .before .before .before .before .args .q) (c .before .before .before .before .before .before .before .pre .1)) ∙ c .if3 .left, o .districts, o .records, ne-eqb _ 0 (c .before .before .before .before .before .if1 .left), sym (c .before .before .before .some-on .ensures) ∙ c .before .before .if2 .left)
 
 pub remembered-spec : {M : Type 1} → statement M
 remembered-spec =

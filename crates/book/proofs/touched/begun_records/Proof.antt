@@ -29,8 +29,8 @@ mul-r c = record { fits = omega (arith, c .before .before .pre) }
 array-copy-out-r : tie.Need-array-copy-out-r Inv-loop μ-loop
 array-copy-out-r c = omega (arith, c .before .before .pre)
 
-begun-requires : tie.Need-begun-requires Inv-loop μ-loop
-begun-requires c κs = omega (arith, c .before .before .before .pre)
+begun-record-requires : tie.Need-begun-record-requires Inv-loop μ-loop
+begun-record-requires c κs = omega (arith, c .before .before .before .pre)
 
 mul-now : tie.Need-mul-now Inv-loop μ-loop
 mul-now c = record { fits = omega (arith, c .before .before .before .before .pre) }
@@ -47,7 +47,7 @@ loop-less c = omega arith
 loop-again : tie.Need-loop-again Inv-loop μ-loop
 loop-again c =
     let long : length (c .before .before .before .before .args .records) ≡ mostDistricts = c .before .before .before .before .good .0 .1 .0 .1 in
-    (omega arith, turn (λ d x. cond (member (c .before .before .before .before .args .set) d) (beginRecord (c .before .before .before .before .args .n .0)) x) noRecord (c .before .before .before .loop .d) (c .before .before .before .before .args .records) (c .before .before .before .loop .now) (c .begun .result) (omega (arith, long, c .before .before .before .before .pre)) (c .before .before .before .loop .inv .1) (c .begun .ensures))
+    (omega arith, turn (λ d x. cond (member (c .before .before .before .before .args .set) d) (beginRecord (c .before .before .before .before .args .n .0)) x) noRecord (c .before .before .before .loop .d) (c .before .before .before .before .args .records) (c .before .before .before .loop .now) (c .begun-record .result) (omega (arith, long, c .before .before .before .before .pre)) (c .before .before .before .loop .inv .1) (c .begun-record .ensures))
 
 returns : tie.Need-returns Inv-loop μ-loop
 returns c = let last : c .before .loop .d ≡ c .before .before .args .districts = omega (arith, c .before .loop .inv .0) in rw last at (c .before .loop .inv .1)
@@ -61,7 +61,7 @@ begun-records-spec =
     loop-holds
     mul-r
     array-copy-out-r
-    begun-requires
+    begun-record-requires
     mul-now
     array-set-from-now
     add-d

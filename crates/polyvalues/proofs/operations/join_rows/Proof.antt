@@ -9,7 +9,7 @@ use borrow.Author.Needs.{needs}
 use borrow.Author.Tests.{not-true, not-false}
 use Rattle.conditions.specs.Places.{places}
 use Rattle.polyvalues.specs.declared.polyvalue.Polyvalue.{Polyvalue}
-use Rattle.polyvalues.specs.Polyvalues.{room, inUse, packed, fitted}
+use Rattle.polyvalues.specs.Polyvalues.{mostPairs, inUse, packed, fitted}
 use Rattle.polyvalues.specs.Simplify.{simplifiedFrom}
 use Rattle.polyvalues.specs.Operations.{cut, changed}
 use Rattle.polyvalues.proofs.Known.{Held, held-long}
@@ -20,7 +20,7 @@ use Rattle.polyvalues.proofs.operations.join_rows.Tie as tie
 
 abbrev Inv-loop : tie.InvT-loop
 Inv-loop start rows place how n done₀ i₀ done i =
-    (i ≤ n) × (done ≡ packed (inUse done)) × (length (inUse done) ≤ room)
+    (i ≤ n) × (done ≡ packed (inUse done)) × (length (inUse done) ≤ mostPairs)
     × (simplifiedFrom places (inUse done) (changed (cut places (place .0) how) (drop i (inUse rows)))
     ≡ simplifiedFrom places (inUse start) (changed (cut places (place .0) how) (inUse rows)))
 

@@ -8,16 +8,16 @@ use mir.Facts.{toZ-ofZ}
 use mir.Syntax.{w16}
 use mir.Val.{SFits}
 use Rattle.conditions.specs.Places.{places}
-use Rattle.polyvalues.specs.Polyvalues.{room, inUse}
+use Rattle.polyvalues.specs.Polyvalues.{mostPairs, inUse}
 use Rattle.polyvalues.proofs.Known.{Held, all-rows, held-long}
 use Rattle.polyvalues.proofs.Inserting.{in-use-le, has-lt, tidy-count, inserted-same, inserted-none, inserted-new}
 use Rattle.polyvalues.proofs.rows.inserted.Statement.{statement}
 use Rattle.polyvalues.proofs.rows.inserted.Tie as tie
 
-few : (s : tie.Start) → length (inUse (s .args .q)) ≤ room
+few : (s : tie.Start) → length (inUse (s .args .q)) ≤ mostPairs
 few s = let held : Held (s .args .q) = record { values = _; own = s .good .0 } in in-use-le (s .args .q) (held-long held)
 
-count-le : (s : tie.Start) → s .args .q .count ≤ room
+count-le : (s : tie.Start) → s .args .q .count ≤ mostPairs
 count-le s = omega (arith, few s, tidy-count (s .args .q) (s .pre))
 
 place-of-requires : tie.Need-place-of-requires
@@ -27,7 +27,7 @@ has-at-requires : tie.Need-has-at-requires
 has-at-requires c κs = count-le (c .before)
 
 -- the row of its value
-inside : (c : tie.Then1) → c .before .before .place-of .result < room
+inside : (c : tie.Then1) → c .before .before .place-of .result < mostPairs
 inside c =
     let l : c .before .before .place-of .result < c .before .before .before .args .q .count = has-lt (c .before .before .before .args .q) (c .before .before .place-of .result) (c .before .before .before .args .new .value) (sym (c .before .has-at .ensures) ∙ c .if1 .taken) in
     omega (arith, count-le (c .before .before .before))

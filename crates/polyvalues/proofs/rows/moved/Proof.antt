@@ -10,7 +10,7 @@ use mir.Syntax.{w16}
 use mir.Val.{SFits, ofZ, toZ}
 use borrow.Author.Needs.{needs}
 use Rattle.polyvalues.specs.declared.polyvalue.Pair.{Pair}
-use Rattle.polyvalues.specs.Polyvalues.{room, paired, rowsOf}
+use Rattle.polyvalues.specs.Polyvalues.{mostPairs, paired, rowsOf}
 use Rattle.polyvalues.specs.Rows.{moved}
 use Rattle.polyvalues.proofs.Known.{Held, held-long}
 use Rattle.polyvalues.proofs.Laws.Paired.{paired-set}
@@ -20,7 +20,7 @@ use Rattle.polyvalues.proofs.rows.moved.Tie as tie
 
 abbrev Inv-loop : tie.InvT-loop
 Inv-loop k n rows₀ carry₀ i₀ rows carry i =
-    (k ≤ i) × (i ≤ suc n) × (n < room) × (length (rowsOf rows) ≡ room) × (moved i n carry (rowsOf rows) ≡ moved k n carry₀ (rowsOf rows₀))
+    (k ≤ i) × (i ≤ suc n) × (n < mostPairs) × (length (rowsOf rows) ≡ mostPairs) × (moved i n carry (rowsOf rows) ≡ moved k n carry₀ (rowsOf rows₀))
 
 abbrev μ-loop : tie.MeasureT-loop
 μ-loop k n rows₀ carry₀ i₀ rows carry i = suc n - i

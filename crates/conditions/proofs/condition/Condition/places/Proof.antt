@@ -1,7 +1,7 @@
 -- The loop's invariant: the set of such places before i, and the bit of place i.
 use mathlib.Core.Path.{_≡_, refl, ap, _∙_}
 use mathlib.Core.Bool.{Bool}
-use Prim.Native.Nat.{ℕ, suc, _+_, _-_, _*_, _^_, _≤_, _<_}
+use Prim.Native.Nat.{ℕ, _+_, _-_, _*_, _^_, _≤_, _<_}
 use native.Mathlib.Numerals.{add-one}
 use native.Mathlib.Nat.{pow-le-pow-right, zero-lt-suc}
 use native.Mathlib.Omega.{arith}

@@ -9,7 +9,7 @@ use lib.IntN.{ℤ}
 use lib.ListN.{length, drop, getD}
 use Rattle.polyvalues.specs.declared.polyvalue.Pair.{Pair}
 use Rattle.polyvalues.specs.Pairs.{noPair}
-use Rattle.polyvalues.specs.Polyvalues.{room, inUse}
+use Rattle.polyvalues.specs.Polyvalues.{mostPairs, inUse}
 use Rattle.polyvalues.specs.Operations.{occurs}
 use Rattle.polyvalues.proofs.Known.{Held, held-long}
 use Rattle.polyvalues.proofs.Inserting.{in-use-le}
@@ -18,7 +18,7 @@ use Rattle.polyvalues.proofs.Comparing.{adds-first, adds-second, adds-o
 use Rattle.polyvalues.proofs.polyvalue.Polyvalue.adds.Statement.{statement}
 use Rattle.polyvalues.proofs.polyvalue.Polyvalue.adds.Tie as tie
 
-few : (s : tie.Start) → length (inUse (s .args .self)) ≤ room
+few : (s : tie.Start) → length (inUse (s .args .self)) ≤ mostPairs
 few s = let held : Held (s .args .self) = record { values = _; own = s .good .0 } in in-use-le (s .args .self) (held-long held)
 
 -- row i's value, the rows after it, and the other polyvalue's

@@ -8,17 +8,17 @@ use lib.Dec.{eqb}
 use lib.ListN.{length, drop}
 use borrow.Author.Needs.{needs}
 use Rattle.polyvalues.specs.Pairs.{blank}
-use Rattle.polyvalues.specs.Polyvalues.{each, room, rowsOf}
+use Rattle.polyvalues.specs.Polyvalues.{each, mostPairs, rowsOf}
 use Rattle.polyvalues.proofs.Known.{Held, held-long}
 use Rattle.polyvalues.proofs.Checking.{blank-more, blank-done}
 use Rattle.polyvalues.proofs.polyvalue.Polyvalue.is_nothing.Statement.{statement}
 use Rattle.polyvalues.proofs.polyvalue.Polyvalue.is_nothing.Tie as tie
 
 abbrev Inv-loop : tie.InvT-loop
-Inv-loop self none₀ i₀ none i = (length (rowsOf self) ≡ room) × ((none && each blank (drop i (rowsOf self))) ≡ (eqb (self .count) 0 && each blank (rowsOf self)))
+Inv-loop self none₀ i₀ none i = (length (rowsOf self) ≡ mostPairs) × ((none && each blank (drop i (rowsOf self))) ≡ (eqb (self .count) 0 && each blank (rowsOf self)))
 
 abbrev μ-loop : tie.MeasureT-loop
-μ-loop self none₀ i₀ none i = room - i
+μ-loop self none₀ i₀ none i = mostPairs - i
 
 loop-holds : tie.Need-loop-holds Inv-loop μ-loop
 loop-holds c = let held : Held (c .before .args .self) = record { values = _; own = c .before .good .0 } in (held-long held, refl)

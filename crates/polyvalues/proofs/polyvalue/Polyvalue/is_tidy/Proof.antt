@@ -8,17 +8,17 @@ use lib.ListN.{length, drop}
 use borrow.Author.Needs.{needs}
 use borrow.Author.Tests.{not-true, not-false}
 use Rattle.polyvalues.specs.Pairs.{blank}
-use Rattle.polyvalues.specs.Polyvalues.{each, room, rowsOf, tidy}
+use Rattle.polyvalues.specs.Polyvalues.{each, mostPairs, rowsOf, tidy}
 use Rattle.polyvalues.proofs.Known.{Held, held-long}
 use Rattle.polyvalues.proofs.Checking.{blank-more, blank-done}
 use Rattle.polyvalues.proofs.polyvalue.Polyvalue.is_tidy.Statement.{statement}
 use Rattle.polyvalues.proofs.polyvalue.Polyvalue.is_tidy.Tie as tie
 
 abbrev Inv-loop : tie.InvT-loop
-Inv-loop self i₀ i = (length (rowsOf self) ≡ room) × (each blank (drop i (rowsOf self)) ≡ each blank (drop (self .count) (rowsOf self)))
+Inv-loop self i₀ i = (length (rowsOf self) ≡ mostPairs) × (each blank (drop i (rowsOf self)) ≡ each blank (drop (self .count) (rowsOf self)))
 
 abbrev μ-loop : tie.MeasureT-loop
-μ-loop self i₀ i = room - i
+μ-loop self i₀ i = mostPairs - i
 
 loop-holds : tie.Need-loop-holds Inv-loop μ-loop
 loop-holds c = let held : Held (c .args .self) = record { values = _; own = c .good .0 } in (held-long held, refl)

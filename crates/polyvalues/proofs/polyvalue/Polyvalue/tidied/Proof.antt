@@ -10,7 +10,7 @@ use borrow.Author.Needs.{needs}
 use Rattle.conditions.specs.Conditions.{ofNumber}
 use Rattle.polyvalues.specs.declared.polyvalue.Pair.{Pair}
 use Rattle.polyvalues.specs.Pairs.{noPair}
-use Rattle.polyvalues.specs.Polyvalues.{room, paired, rowsOf}
+use Rattle.polyvalues.specs.Polyvalues.{mostPairs, paired, rowsOf}
 use Rattle.polyvalues.proofs.Laws.Paired.{AllRows, paired-set}
 use Rattle.polyvalues.proofs.Known.{Held, all-rows, held-long}
 use Rattle.polyvalues.proofs.Inserting.{zeros-none, zeros-more, zeros-all}
@@ -19,11 +19,11 @@ use Rattle.polyvalues.proofs.polyvalue.Polyvalue.tidied.Tie as tie
 
 abbrev Inv-loop : tie.InvT-loop
 Inv-loop n values₀ conditions₀ i₀ values conditions i =
-    (n ≤ i) × (i ≤ room) × (length (paired values₀ conditions₀) ≡ room) × (length values ≡ length conditions)
+    (n ≤ i) × (i ≤ mostPairs) × (length (paired values₀ conditions₀) ≡ mostPairs) × (length values ≡ length conditions)
     × (paired values conditions ≡ take n (paired values₀ conditions₀) ++ replicate (i - n) noPair ++ drop i (paired values₀ conditions₀))
 
 abbrev μ-loop : tie.MeasureT-loop
-μ-loop n values₀ conditions₀ i₀ values conditions i = room - i
+μ-loop n values₀ conditions₀ i₀ values conditions i = mostPairs - i
 
 len-requires : tie.Need-len-requires Inv-loop μ-loop
 len-requires c κs = search needs
@@ -67,7 +67,7 @@ loop-again c =
 returns : tie.Need-returns Inv-loop μ-loop
 returns c =
     let at-loop = c .before .loop in
-    let last : at-loop .i ≡ room = omega (arith, at-loop .inv .1) in
+    let last : at-loop .i ≡ mostPairs = omega (arith, at-loop .inv .1) in
     zeros-all (c .before .before .before .before .before .args .self) (c .before .before .before .before .len .result) (at-loop .inv .2) (c .before .before .before .before .len .ensures .0) (c .before .before .before .before .len .ensures .1) (at-loop .inv .3) (rw last at (at-loop .inv .4))
 
 pub tidied-spec : {M : Type 1} → statement M
