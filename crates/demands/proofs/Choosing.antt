@@ -83,9 +83,9 @@ module _ (w : ℕ) (b : Book) (t : Shaped w b) (g : ℕ → Bool) (a : ℕ) (s :
       notCompleted k z =
           let o = openOf w b n in
           let marks = row-marks w b _ past l n _ (give-up-acts w b t n d e) in
-          let its : openOf w b (recordAt b d .transaction .0) ≡ o = ap (openOf w b) (busy-is n (recordAt b d) (facts .on) .1) in
+          let its : openOf w b (recordAt b d .transaction .0) ≡ o = ap (openOf w b) (busy-is n (recordAt b d) (facts .last) .1) in
           let one : o .decision ≡ 1 = eqb-true (o .decision) 1 (sym (marks .completed) ∙ sym (ever-now past (said w b (givesUp n d)) (asksComplete n) e) ∙ z) in
-          let touched : member (o .touched) d ≡ true = rw its at (facts .sound .busyTouched d (facts .district) (busy-is n (recordAt b d) (facts .on) .0)) in
+          let touched : member (o .touched) d ≡ true = rw its at (facts .sound .busyTouched d (facts .district) (busy-is n (recordAt b d) (facts .last) .0)) in
           let ready = facts .sound .completedReady (placeOf w b n) (facts .place) (place-open w b n (facts .place)) one d (facts .district) touched in
           let not : member (o .ready) d ≡ false = rw its at (facts .sound .computingNotReady d (facts .district) (computing-on n (recordAt b d) k .0)) in
           true≢false (sym ready ∙ not)
@@ -102,7 +102,7 @@ module _ (w : ℕ) (b : Book) (t : Shaped w b) (g : ℕ → Bool) (a : ℕ) (s :
       -- what an item of the district becomes is what counted
       settled : there d x ≡ true
           → cond (computingOn n (recordAt b d)) (heldAt b a i) (cond (member a (placeOf w b n)) (pendingAt b a i) (heldAt b a i)) ≡ chosenAt b g a i
-      settled k = rw (busy-item w b t i h n d (facts .on) k) (by-cases (computingOn n (recordAt b d))
+      settled k = rw (busy-item w b t i h n d (facts .last) k) (by-cases (computingOn n (recordAt b d))
           (λ z. rw (z, aborts z))
           (λ z. rw (z, guessed n (facts .place))))
 
@@ -127,7 +127,7 @@ module _ (w : ℕ) (b : Book) (t : Shaped w b) (g : ℕ → Bool) (a : ℕ) (s :
           by-cases (eqb (o .decision) 1)
           (λ k. legal .completed n (marks .completed ∙ k) ∙ sym k)
           (λ k.
-          let some : o .decision ≡ 0 → ⊥ = eqb-false (o .decision) 0 (not-true _ (hearing .decision)) in
+          let some : o .decision ≡ 0 → ⊥ = eqb-false (o .decision) 0 (not-true _ (hearing .last)) in
           let few = hearing .sound .decisions (placeOf w b n) (hearing .place) (place-open w b n (hearing .place)) in
           let two : o .decision ≡ 2 = omega (arith, eqb-false (o .decision) 1 k, some, few) in
           legal .aborted n (marks .aborted ∙ eq-eqb (o .decision) 2 two) ∙ sym k)

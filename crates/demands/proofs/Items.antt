@@ -39,7 +39,7 @@ module _ (w : ℕ) (b : Book) (t : Shaped w b) (i : ℕ) (h : i < b .count) wher
       (λ k. rw k))
     where
       busy : eqb (recordAt b d .phase) 0 ≡ false
-      busy = ap (λ (m : ℕ). eqb m 0) (computing-on n (recordAt b d) (ready-facts w b t n d e .on) .0)
+      busy = ap (λ (m : ℕ). eqb m 0) (computing-on n (recordAt b d) (ready-facts w b t n d e .last) .0)
 
   -- ---- decide
 

@@ -80,7 +80,7 @@ module _ (w : ℕ) (b : Book) (t : Shaped w b) (past : List Said) (l : Ledger w 
 
     -- the district is on this transaction
     itsRow : openOf w b (recordAt b d .transaction .0) ≡ o
-    itsRow = ap (openOf w b) (busy-is n (recordAt b d) (facts .on) .1)
+    itsRow = ap (openOf w b) (busy-is n (recordAt b d) (facts .last) .1)
 
     wasReadyAs : wasReady past n d ≡ member (o .ready) d
     wasReadyAs = row-marks w b _ past l n _ (give-up-acts w b t n d e) .ready d (facts .district)
@@ -89,7 +89,7 @@ module _ (w : ℕ) (b : Book) (t : Shaped w b) (past : List Said) (l : Ledger w 
     early : givesUpEarly past n (givesUp n d) ≡ computingOn n (recordAt b d)
     early = rw (eq-eqb n n refl, wasReadyAs) (by-cases (computingOn n (recordAt b d))
         (λ k. rw (k, rw itsRow at (facts .sound .computingNotReady d (facts .district) (computing-on n (recordAt b d) k .0))))
-        (λ k. rw (k, rw itsRow at (facts .sound .waitingReady d (facts .district) (waiting-on n (recordAt b d) (facts .on) k)))))
+        (λ k. rw (k, rw itsRow at (facts .sound .waitingReady d (facts .district) (waiting-on n (recordAt b d) (facts .last) k)))))
 
     pub give-up-marked : computingOn n (recordAt b d) ≡ true → wasGivenUp (now (givesUp n d)) n ≡ true
     give-up-marked k = given-up-now past (said w b (givesUp n d)) n e ∙ rw (early, k)

@@ -45,18 +45,18 @@ module _ (w : ℕ) (b : Book) (t : Shaped w b) where
     unfolding ready done
     readyLeft = let f = ready-facts in
         left w (readied w b n d) _ (done-accepted w (readyAnswer w b n d) (readied w b n d) b e)
-        (ready-but w b (sound-but w b (f .sound)) t n d (f .place) (f .district) (f .on)) (ready-shaped w b n d t)
+        (ready-but w b (sound-but w b (f .sound)) t n d (f .place) (f .district) (f .last)) (ready-shaped w b n d t)
 
     pub ready-acts : Acts w b (ready w b n d .book) n (reported d (openOf w b n))
     unfolding readied
     ready-acts =
         let f = ready-facts in
         acts w b (readied w b n d) _ n _ (f .sound) (ready-whole w b n d (record { sound = f .sound; shaped = t })) (f .place) refl readyLeft refl refl refl
-        (ready-opens w b (sound-but w b (f .sound)) t n d (f .place) (f .district) (f .on))
+        (ready-opens w b (sound-but w b (f .sound)) t n d (f .place) (f .district) (f .last))
 
     pub ready-record : (x : ℕ) → recordAt (ready w b n d .book) x ≡ cond (eqb x d) (readyRecord (recordAt b x)) (recordAt b x)
     ready-record x = let f = ready-facts in
-        readyLeft .records x ∙ ready-records w b (sound-but w b (f .sound)) t n d (f .place) (f .district) (f .on) x
+        readyLeft .records x ∙ ready-records w b (sound-but w b (f .sound)) t n d (f .place) (f .district) (f .last) x
         ∙ by-cases (eqb x d) (λ k. rw (k, eqb-true x d k)) (λ k. rw k)
 
   -- ---- give up
@@ -70,17 +70,17 @@ module _ (w : ℕ) (b : Book) (t : Shaped w b) where
     unfolding giveUp done
     giveUpLeft = let f = give-up-facts in
         left w (gaveUp w b n d) _ (done-accepted w (giveUpAnswer w b n d) (gaveUp w b n d) b e)
-        (give-up-but w b (f .sound) t n d (f .place) (f .district) (f .on)) (give-up-shaped w b (f .sound) t n d (f .place) (f .district) (f .on))
+        (give-up-but w b (f .sound) t n d (f .place) (f .district) (f .last)) (give-up-shaped w b (f .sound) t n d (f .place) (f .district) (f .last))
 
     pub give-up-acts : Acts w b (giveUp w b n d .book) n (cond (computingOn n (recordAt b d)) (marked d (openOf w b n)) (openOf w b n))
     unfolding gaveUp
     give-up-acts =
         let f = give-up-facts in
         acts w b (gaveUp w b n d) _ n _ (f .sound) (give-up-whole w b n d (record { sound = f .sound; shaped = t })) (f .place) (by-cases (computingOn n (recordAt b d)) (λ k. rw k) (λ k. rw k)) giveUpLeft refl refl refl
-        (give-up-opens w b (f .sound) t n d (f .place) (f .district) (f .on))
+        (give-up-opens w b (f .sound) t n d (f .place) (f .district) (f .last))
 
     pub give-up-record : (x : ℕ) → recordAt (giveUp w b n d .book) x ≡ cond (eqb x d) noRecord (recordAt b x)
-    give-up-record x = let f = give-up-facts in giveUpLeft .records x ∙ give-up-records w b (f .sound) t n d (f .place) (f .district) (f .on) x
+    give-up-record x = let f = give-up-facts in giveUpLeft .records x ∙ give-up-records w b (f .sound) t n d (f .place) (f .district) (f .last) x
 
   -- ---- complete
 

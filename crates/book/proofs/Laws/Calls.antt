@@ -1,21 +1,22 @@
 -- Demand 1 of every call: a refused call returns the same book, an accepted one on a sound book a sound book.
 use mathlib.Core.Path.{_≡_, refl}
-use mathlib.Core.Bool.{true, false, not, _&&_}
-use mathlib.Core.List.{List}
+use mathlib.Core.Bool.{Bool, true, false, not, _&&_}
+use mathlib.Core.List.{List, [], _∷_}
 use Prim.Native.Nat.{ℕ, _<_}
 use native.Mathlib.Omega.{arith}
 use borrow.Author.Tests.{ltb-true, not-false}
 use Rattle.conditions.specs.Sets.{member}
 use Rattle.conditions.proofs.Laws.Below.{or-right, by-cases, any-none}
 use Rattle.book.specs.declared.Answer.{Answer}
+use Rattle.book.specs.declared.Answer.the-variants.{NoDistrict, NotOpen, NotOnIt, NotDecided, Unsound}
 use Rattle.book.specs.declared.Book.{Book}
 use Rattle.book.specs.declared.Step.{Step}
-use Rattle.book.specs.Answers.{accepted}
+use Rattle.book.specs.Answers.{accepted, firstOf}
 use Rattle.book.specs.Book.{lastNumber, recordAt, placeOf, freePlace, openOf}
 use Rattle.book.specs.Programs.{steps}
 use Rattle.book.specs.Records.{computingOn, busyOn}
 use Rattle.book.specs.Forget.{decided, forget}
-use Rattle.book.specs.Transactions.{done}
+use Rattle.book.specs.Transactions.{unsound, notOpen, noDistrict, done}
 use Rattle.book.specs.Begin.{badProgram, badLength, beginAnswer, begun, begin}
 use Rattle.book.specs.Ready.{readyAnswer, readied, ready}
 use Rattle.book.specs.GiveUp.{giveUpAnswer, gaveUp, giveUp}
@@ -67,18 +68,18 @@ done-whole w a after before s f =
     (λ e. rw (done-accepted w a after before e) (f e))
     (λ e. rw (done-refused w a after before e) s)
 
--- ---- ready
+-- ---- events at a district
 
--- what is so where it is accepted
-pub record Readies (w : ℕ) (b : Book) (n d : ℕ) : Type 0 where
+-- what is so where one is accepted: the last of its tests says whether `fact` holds
+pub record AtDistrict (w : ℕ) (b : Book) (n d : ℕ) (fact : Bool) : Type 0 where
   pub sound : Sound w b
   pub place : placeOf w b n < w
   pub district : d < b .districts
-  pub on : computingOn n (recordAt b d) ≡ true
+  pub last : fact ≡ true
 
-pub ready-tests : (w : ℕ) (b : Book) (n d : ℕ) → accepted (readyAnswer w b n d) ≡ true → Readies w b n d
-unfolding readyAnswer
-ready-tests w b n d e =
+at-district : (w : ℕ) (b : Book) (n d : ℕ) (fact : Bool) (a : Answer) → accepted a ≡ false
+    → accepted (firstOf ((unsound w b, Unsound) ∷ (notOpen w b n, NotOpen) ∷ (noDistrict b d, NoDistrict) ∷ (not fact, a) ∷ [])) ≡ true → AtDistrict w b n d fact
+at-district w b n d fact a refused e =
     let e1 = later-accepted _ _ _ refl e in
     let e2 = later-accepted _ _ _ refl e1 in
     let e3 = later-accepted _ _ _ refl e2 in
@@ -86,12 +87,21 @@ ready-tests w b n d e =
       sound = test-sound w b (not-false _ (test-false _ _ _ refl e));
       place = ltb-true (placeOf w b n) w (not-false _ (test-false _ _ _ refl e1));
       district = ltb-true d (b .districts) (not-false _ (test-false _ _ _ refl e2));
-      on = not-false _ (test-false _ _ _ refl e3);
+      last = not-false _ (test-false _ _ _ refused e3);
     }
+
+-- ---- ready
+
+abbrev pub Readies : ℕ → Book → ℕ → ℕ → Type 0
+Readies w b n d = AtDistrict w b n d (computingOn n (recordAt b d))
+
+pub ready-tests : (w : ℕ) (b : Book) (n d : ℕ) → accepted (readyAnswer w b n d) ≡ true → Readies w b n d
+unfolding readyAnswer
+ready-tests w b n d = at-district w b n d (computingOn n (recordAt b d)) NotOnIt refl
 
 pub ready-sound : (w : ℕ) (b : Book) (n d : ℕ) → Readies w b n d → Shaped w b → Whole w (forget w (readied w b n d))
 ready-sound w b n d f t =
-    forgotten w (readied w b n d) (ready-but w b (sound-but w b (f .sound)) t n d (f .place) (f .district) (f .on)) (ready-shaped w b n d t)
+    forgotten w (readied w b n d) (ready-but w b (sound-but w b (f .sound)) t n d (f .place) (f .district) (f .last)) (ready-shaped w b n d t)
 
 pub ready-whole : (w : ℕ) (b : Book) (n d : ℕ) → Whole w b → Whole w (ready w b n d .book)
 unfolding ready
@@ -99,28 +109,16 @@ ready-whole w b n d s = done-whole w _ _ b s (λ e. ready-sound w b n d (ready-t
 
 -- ---- give up
 
-pub record GivesUp (w : ℕ) (b : Book) (n d : ℕ) : Type 0 where
-  pub sound : Sound w b
-  pub place : placeOf w b n < w
-  pub district : d < b .districts
-  pub on : busyOn n (recordAt b d) ≡ true
+abbrev pub GivesUp : ℕ → Book → ℕ → ℕ → Type 0
+GivesUp w b n d = AtDistrict w b n d (busyOn n (recordAt b d))
 
 pub give-up-tests : (w : ℕ) (b : Book) (n d : ℕ) → accepted (giveUpAnswer w b n d) ≡ true → GivesUp w b n d
 unfolding giveUpAnswer
-give-up-tests w b n d e =
-    let e1 = later-accepted _ _ _ refl e in
-    let e2 = later-accepted _ _ _ refl e1 in
-    let e3 = later-accepted _ _ _ refl e2 in
-    record {
-      sound = test-sound w b (not-false _ (test-false _ _ _ refl e));
-      place = ltb-true (placeOf w b n) w (not-false _ (test-false _ _ _ refl e1));
-      district = ltb-true d (b .districts) (not-false _ (test-false _ _ _ refl e2));
-      on = not-false _ (test-false _ _ _ refl e3);
-    }
+give-up-tests w b n d = at-district w b n d (busyOn n (recordAt b d)) NotOnIt refl
 
 pub give-up-sound : (w : ℕ) (b : Book) (n d : ℕ) → GivesUp w b n d → Shaped w b → Whole w (forget w (gaveUp w b n d))
 give-up-sound w b n d f t =
-    forgotten w (gaveUp w b n d) (give-up-but w b (f .sound) t n d (f .place) (f .district) (f .on)) (give-up-shaped w b (f .sound) t n d (f .place) (f .district) (f .on))
+    forgotten w (gaveUp w b n d) (give-up-but w b (f .sound) t n d (f .place) (f .district) (f .last)) (give-up-shaped w b (f .sound) t n d (f .place) (f .district) (f .last))
 
 pub give-up-whole : (w : ℕ) (b : Book) (n d : ℕ) → Whole w b → Whole w (giveUp w b n d .book)
 unfolding giveUp
@@ -185,24 +183,12 @@ abort-whole w b n s = done-whole w _ _ b s (λ e. abort-sound w b n (abort-tests
 
 -- ---- hear
 
-pub record Hears (w : ℕ) (b : Book) (n d : ℕ) : Type 0 where
-  pub sound : Sound w b
-  pub place : placeOf w b n < w
-  pub district : d < b .districts
-  pub decision : decided (openOf w b n) ≡ true
+abbrev pub Hears : ℕ → Book → ℕ → ℕ → Type 0
+Hears w b n d = AtDistrict w b n d (decided (openOf w b n))
 
 pub hear-tests : (w : ℕ) (b : Book) (n d : ℕ) → accepted (hearAnswer w b n d) ≡ true → Hears w b n d
 unfolding hearAnswer
-hear-tests w b n d e =
-    let e1 = later-accepted _ _ _ refl e in
-    let e2 = later-accepted _ _ _ refl e1 in
-    let e3 = later-accepted _ _ _ refl e2 in
-    record {
-      sound = test-sound w b (not-false _ (test-false _ _ _ refl e));
-      place = ltb-true (placeOf w b n) w (not-false _ (test-false _ _ _ refl e1));
-      district = ltb-true d (b .districts) (not-false _ (test-false _ _ _ refl e2));
-      decision = not-false _ (test-false _ _ _ refl e3);
-    }
+hear-tests w b n d = at-district w b n d (decided (openOf w b n)) NotDecided refl
 
 pub hear-sound : (w : ℕ) (b : Book) (n d : ℕ) → Hears w b n d → Shaped w b → Whole w (forget w (heard w b n d))
 hear-sound w b n d f t =

@@ -89,7 +89,7 @@ module _ (w : ℕ) (b : Book) (t : Shaped w b) (i : ℕ) (h : i < b .count) (a :
       f = give-up-tests w b n d e
 
       onIt : concerned b n d x ≡ there d x
-      onIt = concerned-busy b n d (f .sound .phases d (f .district)) (place-named w b n (f .place) .1) x ∙ rw (f .on) (and-true (there d x))
+      onIt = concerned-busy b n d (f .sound .phases d (f .district)) (place-named w b n (f .place) .1) x ∙ rw (f .last) (and-true (there d x))
 
       held : valueUnder (itemAt (gaveUp w b n d) i .held) a ≡ cond (there d x) (givenUp n d) (valueUnder (x .held) a)
       held = rw onIt at (give-up-held w b (f .sound) t n d i h a l)

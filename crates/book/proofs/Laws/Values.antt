@@ -140,43 +140,41 @@ module _ (w : ℕ) (b : Book) (s : Sound w b) (t : Shaped w b) where
   unfolding heard
   hear-item n d i h = getD-rows (λ i x. hearItem w b n d (placeOf w b n) (outcome (openOf w b n)) x) voidItem (b .count) (b .items) i h (inside i h)
 
-  -- "If it is busy on that transaction it installs pending (completed) or drops it (aborted) .. Then every held and pending polyvalue there is reduced"
-  pub hear-held : (n d i : ℕ) → i < b .count → (a : ℕ) → a < 2 ^ w
-      → valueUnder (itemAt (heard w b n d) i .held) a
+  -- "If it is busy on that transaction it installs pending (completed) or drops it (aborted) .. Then every held and pending polyvalue there is reduced": f is the one or the other
+  abbrev pub HearValue : (Item → Polyvalue) → Type 0
+  HearValue f = (n d i : ℕ) → i < b .count → (a : ℕ) → a < 2 ^ w
+      → valueUnder (f (itemAt (heard w b n d) i)) a
       ≡ cond (there d (itemAt b i))
       (cond (concerned b n d (itemAt b i))
       (cond (outcome (openOf w b n)) (valueUnder (itemAt b i .pending) (withPlace w a (placeOf w b n) (outcome (openOf w b n))))
       (valueUnder (itemAt b i .held) (withPlace w a (placeOf w b n) (outcome (openOf w b n)))))
-      (valueUnder (itemAt b i .held) (withPlace w a (placeOf w b n) (outcome (openOf w b n)))))
-      (valueUnder (itemAt b i .held) a)
-  unfolding hearItem reduceItem
-  hear-held n d i h a l =
-      ap (λ (x : Item). valueUnder (x .held) a) (hear-item n d i h)
-      ∙ by-cases (there d (itemAt b i)) (λ e. rw e (go (concerned b n d (itemAt b i)) (outcome (openOf w b n)))) (λ e. rw e)
-    where
-      go : (c o : Bool) → valueUnder (reduceItem w (placeOf w b n) o (cond c (cond o (install (itemAt b i)) (drop (itemAt b i))) (itemAt b i)) .held) a
-          ≡ cond c (cond o (valueUnder (itemAt b i .pending) (withPlace w a (placeOf w b n) o)) (valueUnder (itemAt b i .held) (withPlace w a (placeOf w b n) o)))
-          (valueUnder (itemAt b i .held) (withPlace w a (placeOf w b n) o))
-      go true true = reduce-at w (placeOf w b n) true (inUse (itemAt b i .pending)) (pending-complete i h) a l
-      go true false = reduce-at w (placeOf w b n) false (inUse (itemAt b i .held)) (held-complete i h) a l
-      go false o = reduce-at w (placeOf w b n) o (inUse (itemAt b i .held)) (held-complete i h) a l
+      (valueUnder (f (itemAt b i)) (withPlace w a (placeOf w b n) (outcome (openOf w b n)))))
+      (valueUnder (f (itemAt b i)) a)
 
-  pub hear-pending : (n d i : ℕ) → i < b .count → (a : ℕ) → a < 2 ^ w
-      → valueUnder (itemAt (heard w b n d) i .pending) a
-      ≡ cond (there d (itemAt b i))
-      (cond (concerned b n d (itemAt b i))
-      (cond (outcome (openOf w b n)) (valueUnder (itemAt b i .pending) (withPlace w a (placeOf w b n) (outcome (openOf w b n))))
-      (valueUnder (itemAt b i .held) (withPlace w a (placeOf w b n) (outcome (openOf w b n)))))
-      (valueUnder (itemAt b i .pending) (withPlace w a (placeOf w b n) (outcome (openOf w b n)))))
-      (valueUnder (itemAt b i .pending) a)
-  unfolding hearItem reduceItem
-  hear-pending n d i h a l =
-      ap (λ (x : Item). valueUnder (x .pending) a) (hear-item n d i h)
-      ∙ by-cases (there d (itemAt b i)) (λ e. rw e (go (concerned b n d (itemAt b i)) (outcome (openOf w b n)))) (λ e. rw e)
+  hear-value : (f : Item → Polyvalue) → ((x : Item) → f (install x) ≡ x .pending) → ((x : Item) → f (drop x) ≡ x .held)
+      → ((q : ℕ) (o : Bool) (x : Item) → f (reduceItem w q o x) ≡ packed (reduce w q o (inUse (f x)))) → ((i : ℕ) → i < b .count → Complete w (inUse (f (itemAt b i))))
+      → HearValue f
+  unfolding hearItem
+  hear-value f installs drops reduces complete n d i h a l =
+      ap (λ (x : Item). valueUnder (f x) a) (hear-item n d i h)
+      ∙ by-cases (there d x) (λ e. rw e (go (concerned b n d x) (outcome (openOf w b n)))) (λ e. rw e)
     where
-      go : (c o : Bool) → valueUnder (reduceItem w (placeOf w b n) o (cond c (cond o (install (itemAt b i)) (drop (itemAt b i))) (itemAt b i)) .pending) a
-          ≡ cond c (cond o (valueUnder (itemAt b i .pending) (withPlace w a (placeOf w b n) o)) (valueUnder (itemAt b i .held) (withPlace w a (placeOf w b n) o)))
-          (valueUnder (itemAt b i .pending) (withPlace w a (placeOf w b n) o))
-      go true true = reduce-at w (placeOf w b n) true (inUse (itemAt b i .pending)) (pending-complete i h) a l
-      go true false = reduce-at w (placeOf w b n) false (inUse (itemAt b i .held)) (held-complete i h) a l
-      go false o = reduce-at w (placeOf w b n) o (inUse (itemAt b i .pending)) (pending-complete i h) a l
+      x : Item
+      x = itemAt b i
+
+      q : ℕ
+      q = placeOf w b n
+
+      go : (c o : Bool) → valueUnder (f (reduceItem w q o (cond c (cond o (install x) (drop x)) x))) a
+          ≡ cond c (cond o (valueUnder (x .pending) (withPlace w a q o)) (valueUnder (x .held) (withPlace w a q o))) (valueUnder (f x) (withPlace w a q o))
+      go true true = rw (reduces q true (install x), installs x) (reduce-at w q true (inUse (x .pending)) (pending-complete i h) a l)
+      go true false = rw (reduces q false (drop x), drops x) (reduce-at w q false (inUse (x .held)) (held-complete i h) a l)
+      go false o = rw (reduces q o x) (reduce-at w q o (inUse (f x)) (complete i h) a l)
+
+  pub hear-held : HearValue (λ x. x .held)
+  unfolding reduceItem
+  hear-held = hear-value (λ x. x .held) (λ x. refl) (λ x. refl) (λ q o x. refl) held-complete
+
+  pub hear-pending : HearValue (λ x. x .pending)
+  unfolding reduceItem
+  hear-pending = hear-value (λ x. x .pending) (λ x. refl) (λ x. refl) (λ q o x. refl) pending-complete
