@@ -2,7 +2,6 @@
 ghost use mathlib.Core.Path.{_≡_};
 ghost use mathlib.Core.Bool.{not, _&&_};
 ghost use mathlib.Core.List.{[]};
-ghost use Prim.Native.Nat.{_<_};
 ghost use lib.Dec.{leb};
 ghost use Rattle.conditions.specs.Sets.{setOf};
 ghost use Rattle.conditions.specs.Places.{places as Places·places};
@@ -12,7 +11,6 @@ ghost use Rattle.polyvalues.specs.Operations.{together};
 ghost use Rattle.book.specs.declared.Book.{Book};
 ghost use Rattle.book.specs.Book.{noItem, placeOf, itemDepends};
 ghost use Rattle.book.specs.SoundTest.{samePolyvalue, sameItem, soundRow};
-use crate::Book;
 use crate::Item;
 use crate::Open;
 use crate::Record;

@@ -4,7 +4,7 @@ ghost use mathlib.Core.Bool.{false};
 ghost use Prim.Native.Nat.{_≤_, _<_};
 ghost use lib.ListN.{length, getD};
 ghost use Rattle.book.specs.Book.{mostItems};
-ghost use Rattle.book.specs.Programs.{steps, names, touches};
+ghost use Rattle.book.specs.Programs.{steps, touches};
 ghost use Rattle.book.specs.Begin.{mostSteps, someStep, badLength, badStep, badProgram, outside};
 ghost use Rattle.book.specs.States.{noStep, stepsOf, programOf, stateOf, ran};
 use crate::Step;

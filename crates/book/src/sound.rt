@@ -1,10 +1,8 @@
 // Whether a book that is handed in is sound: the paragraph of document 01, row by row.
 ghost use mathlib.Core.Path.{_≡_};
 ghost use mathlib.Core.Bool.{_&&_};
-ghost use Prim.Native.Nat.{_<_};
 ghost use lib.Dec.{leb};
 ghost use Rattle.conditions.specs.Places.{places as Places·places};
-ghost use Rattle.book.specs.declared.Book.{Book};
 ghost use Rattle.book.specs.Book.{mostDistricts, mostItems};
 ghost use Rattle.book.specs.SoundTest.{sound};
 use crate::Book;

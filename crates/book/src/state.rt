@@ -4,7 +4,7 @@ ghost use mathlib.Core.Bool.{false};
 ghost use Prim.Native.Nat.{_<_};
 ghost use lib.IntN.{_+ℤ_};
 ghost use Rattle.book.specs.Book.{mostItems};
-ghost use Rattle.book.specs.Programs.{numbered, takes};
+ghost use Rattle.book.specs.Programs.{takes};
 ghost use Rattle.book.specs.Begin.{outside};
 ghost use Rattle.book.specs.States.{stateOf, stateRows, added, stepped};
 use crate::Step;

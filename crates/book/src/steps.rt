@@ -1,7 +1,5 @@
 // A step of a program: what is wrong with it, and which items it names.
 ghost use mathlib.Core.Path.{_≡_};
-ghost use mathlib.Core.Bool.{false};
-ghost use Prim.Native.Nat.{_<_};
 ghost use Rattle.polyvalues.specs.Values.{inRange};
 ghost use Rattle.book.specs.Programs.{numbered, names};
 ghost use Rattle.book.specs.Begin.{badStep, inTable, outside};

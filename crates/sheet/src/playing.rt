@@ -3,7 +3,6 @@ ghost use mathlib.Core.Path.{_≡_};
 ghost use Prim.Native.Nat.{_-_, _≤_};
 ghost use lib.ListN.{length, take, drop};
 ghost use Rattle.conditions.specs.Places.{places};
-ghost use Rattle.book.specs.Begin.{begin};
 ghost use Rattle.sheet.specs.Lines.{longestLine};
 ghost use Rattle.sheet.specs.Play.{ofBegun, ofDone, ofShow, played, playedBuffer};
 ghost use Rattle.sheet.specs.Plays.{Plays};
