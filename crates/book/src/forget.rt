@@ -5,7 +5,8 @@ ghost use Rattle.conditions.specs.Places.{places as Places·places};
 ghost use Rattle.book.specs.declared.Book.{Book};
 ghost use Rattle.book.specs.Book.{mostDistricts, mostItems};
 ghost use Rattle.book.specs.Rows.{rows};
-ghost use Rattle.book.specs.Forget.{remembered, forget};
+ghost use Rattle.book.specs.Forget.{decided, needed, remembered, forget};
+ghost use Rattle.book.specs.SoundTest.{implies};
 ghost use Rattle.book.specs.Tables.{TablesOf};
 use crate::Book;
 use crate::Open;
@@ -16,19 +17,28 @@ use crate::tables::places_of;
 use crate::tables::some_on;
 use conditions::PLACES;
 
-// What a place holds afterwards: a decided transaction that nothing needs is closed.
+// Whether the transaction at a place stays: it is not decided, or has a district on it or a polyvalue
+// that depends on it.
+pub(crate) fn is_kept(t: Tables, q: usize, o: Open) -> bool
+    requires { ⌜ (t .districts ≤ mostDistricts) × (q < Places·places) ⌝ }
+    ensures { λ r. ⌜ ((b : Book) → TablesOf Places·places b t → r ≡ implies (decided o) (needed Places·places b q o)) ⌝ }
+{
+    if o.decision == 0 {
+        return true;
+    }
+    let records = t.records;
+    if some_on(records, t.districts, o.number.0) {
+        return true;
+    }
+    has(t.depended, q)
+}
+
+// What a place holds afterwards: a transaction that does not stay is closed.
 fn remembered(t: Tables, q: usize, o: Open) -> Open
     requires { ⌜ (t .districts ≤ mostDistricts) × (q < Places·places) ⌝ }
     ensures { λ r. ⌜ ((b : Book) → TablesOf Places·places b t → r ≡ remembered Places·places b q o) ⌝ }
 {
-    if o.decision == 0 {
-        return o;
-    }
-    let records = t.records;
-    if some_on(records, t.districts, o.number.0) {
-        return o;
-    }
-    if has(t.depended, q) {
+    if is_kept(t, q, o) {
         return o;
     }
     FREE

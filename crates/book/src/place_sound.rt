@@ -8,13 +8,12 @@ ghost use Rattle.conditions.specs.Below.{all};
 ghost use Rattle.conditions.specs.Places.{places as Places·places};
 ghost use Rattle.book.specs.declared.Book.{Book};
 ghost use Rattle.book.specs.Book.{mostDistricts, noOpen};
-ghost use Rattle.book.specs.Forget.{decided, needed};
 ghost use Rattle.book.specs.Tables.{TablesOf};
-ghost use Rattle.book.specs.SoundTest.{implies, zeroOpen, soundAt, soundOpen, soundPlace};
+ghost use Rattle.book.specs.SoundTest.{zeroOpen, soundAt, soundOpen, soundPlace};
 use crate::Open;
+use crate::forget::is_kept;
 use crate::sets::has;
 use crate::tables::Tables;
-use crate::tables::some_on;
 use conditions::PLACES;
 use conditions::TransactionNumber;
 
@@ -94,21 +93,6 @@ fn number_differs(places: [Open; PLACES], q: usize, n: TransactionNumber) -> boo
     true
 }
 
-// Whether the transaction is not decided, or has a district on it or a polyvalue that depends on it.
-fn sound_decided(t: Tables, q: usize, o: Open) -> bool
-    requires { ⌜ (t .districts ≤ mostDistricts) × (q < Places·places) ⌝ }
-    ensures { λ r. ⌜ ((b : Book) → TablesOf Places·places b t → r ≡ implies (decided o) (needed Places·places b q o)) ⌝ }
-{
-    if o.decision == 0 {
-        return true;
-    }
-    let records = t.records;
-    if some_on(records, t.districts, o.number.0) {
-        return true;
-    }
-    has(t.depended, q)
-}
-
 // Whether the open transaction at a place is sound.
 fn sound_open(t: Tables, q: usize, o: Open) -> bool
     requires { ⌜ (t .districts ≤ mostDistricts) × (q < Places·places) ⌝ }
@@ -134,7 +118,7 @@ fn sound_open(t: Tables, q: usize, o: Open) -> bool
     if t.last.0 < o.number.0 {
         return false;
     }
-    if !sound_decided(t, q, o) {
+    if !is_kept(t, q, o) {
         return false;
     }
     sound_sets(o, districts)

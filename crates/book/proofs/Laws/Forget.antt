@@ -1,6 +1,6 @@
 -- Where every decided transaction is needed there is nothing to forget. A sound book is such: so show, which changes nothing, needs no forgetting at its end.
 use mathlib.Core.Path.{_≡_, ap}
-use mathlib.Core.Bool.{true}
+use mathlib.Core.Bool.{true, cond}
 use Prim.Native.Nat.{ℕ, _≤_, _<_}
 use native.Mathlib.Omega.{arith}
 use borrow.Author.Tests.{eqb-false, not-true}
@@ -10,7 +10,13 @@ use Rattle.book.specs.declared.Book.{Book}
 use Rattle.book.specs.Book.{noOpen, openAt, isOpen, withOpen}
 use Rattle.book.specs.Forget.{decided, needed, remembered, forget}
 use Rattle.book.specs.Sound.{Sound}
+use Rattle.book.specs.SoundTest.{implies}
 use Rattle.book.proofs.Laws.Rows.{rows-same}
+
+-- it stays, or its place is freed
+pub remembered-is : (w : ℕ) (b : Book) (q : ℕ) (o : Open) → remembered w b q o ≡ cond (implies (decided o) (needed w b q o)) o noOpen
+unfolding remembered
+remembered-is w b q o = by-cases (decided o) (λ e. rw e) (λ e. rw e)
 
 -- a transaction that is needed, or not decided, is remembered
 pub remembered-stays : (w : ℕ) (b : Book) (q : ℕ) (o : Open) → (decided o ≡ true → needed w b q o ≡ true) → remembered w b q o ≡ o

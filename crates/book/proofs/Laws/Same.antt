@@ -1,6 +1,6 @@
 -- Rows that pass the test of equality are equal, and only they.
 use mathlib.Core.Path.{_≡_, refl, sym, ap, ap₂, _∙_}
-use mathlib.Core.Bool.{Bool, true, false, _&&_, false≢true}
+use mathlib.Core.Bool.{Bool, true, _&&_, false≢true}
 use mathlib.Core.List.{List, [], _∷_}
 use native.Mathlib.Omega.{arith}
 use lib.Dec.{eqb}
@@ -10,7 +10,7 @@ use borrow.Author.Tests.{eq-eqb, eqb-true}
 use Rattle.conditions.specs.declared.condition.Condition.{Condition}
 use Rattle.conditions.specs.Conditions.{number, ofNumber}
 use Rattle.conditions.proofs.Laws.Conditions.{of-number}
-use Rattle.conditions.proofs.Laws.Below.{and-left, and-right}
+use Rattle.conditions.proofs.Laws.Below.{and-left, and-right, and-swap}
 use Rattle.polyvalues.specs.declared.polyvalue.Pair.{Pair}
 use Rattle.polyvalues.specs.declared.polyvalue.Polyvalue.{Polyvalue}
 use Rattle.polyvalues.specs.Values.{equal}
@@ -76,13 +76,7 @@ same-paired (v ∷ vs) [] (c ∷ cs) (d ∷ ds) e f = absurd (omega arith)
 same-paired (v ∷ vs) (u ∷ us) (c ∷ cs) [] e f = absurd (omega arith)
 same-paired (v ∷ vs) (u ∷ us) (c ∷ cs) (d ∷ ds) e f =
     ap (λ (b : Bool). equal v u && sameCondition c d && b) (same-paired vs us cs ds (omega arith) (omega arith))
-    ∙ apart (equal v u) (sameCondition c d) (sameRows equal vs us) (sameRows sameCondition cs ds)
-  where
-    apart : (a b x y : Bool) → (a && b && (x && y)) ≡ (a && x && (b && y))
-    apart true true x y = refl
-    apart true false true y = refl
-    apart true false false y = refl
-    apart false b x y = refl
+    ∙ and-swap (equal v u) (sameCondition c d) (sameRows equal vs us) (sameRows sameCondition cs ds)
 
 pub same-polyvalue : (q r : Polyvalue) → samePolyvalue q r ≡ true → q ≡ r
 unfolding samePolyvalue

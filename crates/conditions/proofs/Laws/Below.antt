@@ -23,6 +23,12 @@ pub or-right : (x y : Bool) → (x || y) ≡ false → y ≡ false
 or-right true y e = absurd (true≢false e)
 or-right false y e = e
 
+pub and-swap : (a b c d : Bool) → (a && b && (c && d)) ≡ (a && c && (b && d))
+and-swap false b c d = refl
+and-swap true true c d = refl
+and-swap true false true d = refl
+and-swap true false false d = refl
+
 -- a truth value is one of the two, and which one is known in each case
 pub by-cases : {P : Type 0} (b : Bool) → (b ≡ true → P) → (b ≡ false → P) → P
 by-cases true t f = t refl
@@ -65,13 +71,7 @@ all-plus k (suc m) f =
 pub all-both : (k : ℕ) (f g : ℕ → Bool) → all k (λ n. f n && g n) ≡ (all k f && all k g)
 unfolding all
 all-both zero f g = refl
-all-both (suc k) f g = ap (λ (x : Bool). x && (f k && g k)) (all-both k f g) ∙ swap (all k f) (all k g) (f k) (g k)
-  where
-    swap : (a b c d : Bool) → (a && b && (c && d)) ≡ (a && c && (b && d))
-    swap false b c d = refl
-    swap true true c d = refl
-    swap true false true d = refl
-    swap true false false d = refl
+all-both (suc k) f g = ap (λ (x : Bool). x && (f k && g k)) (all-both k f g) ∙ and-swap (all k f) (all k g) (f k) (g k)
 
 -- where it fails, one fails
 pub all-not : (k : ℕ) (f : ℕ → Bool) → all k f ≡ false → (i : ℕ) × (i < k) × (f i ≡ false)

@@ -44,12 +44,12 @@ returns-6 : tie.Need-returns-6
 unfolding soundOpen
 returns-6 c b o = rw (o .districts, o .places, o .last, lt-leb _ _ (c .if6 .taken), and-false)
 
-sound-decided-requires : tie.Need-sound-decided-requires
-sound-decided-requires c κs = search needs
+is-kept-requires : tie.Need-is-kept-requires
+is-kept-requires c κs = search needs
 
 returns-7 : tie.Need-returns-7
 unfolding soundOpen
-returns-7 c b o = rw (sym (c .before .sound-decided .ensures b o) ∙ not-true _ (c .if7 .taken), and-false)
+returns-7 c b o = rw (sym (c .before .is-kept .ensures b o) ∙ not-true _ (c .if7 .taken), and-false)
 
 sound-sets-requires : tie.Need-sound-sets-requires
 sound-sets-requires c κs = search needs
@@ -59,7 +59,7 @@ unfolding soundOpen
 returns-8 c b o =
     c .sound-sets .ensures
     ∙ rw (
-      sym (c .before .before .sound-decided .ensures b o) ∙ not-false _ (c .before .if7 .left),
+      sym (c .before .before .is-kept .ensures b o) ∙ not-false _ (c .before .if7 .left),
       o .districts,
       o .places,
       o .last,
@@ -85,7 +85,7 @@ sound-open-spec =
     number-differs-requires
     returns-5
     returns-6
-    sound-decided-requires
+    is-kept-requires
     returns-7
     sound-sets-requires
     returns-8)

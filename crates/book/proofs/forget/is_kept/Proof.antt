@@ -4,8 +4,8 @@ use mathlib.Core.Path.{sym, _∙_}
 use borrow.Author.Tests.{eq-eqb, ne-eqb}
 use Rattle.book.specs.Book.{someOn}
 use Rattle.book.specs.Forget.{needed}
-use Rattle.book.proofs.place_sound.sound_decided.Statement.{statement}
-use Rattle.book.proofs.place_sound.sound_decided.Tie as tie
+use Rattle.book.proofs.forget.is_kept.Statement.{statement}
+use Rattle.book.proofs.forget.is_kept.Tie as tie
 
 returns : tie.Need-returns
 returns c b o = rw (eq-eqb _ _ (c .if1 .taken))
@@ -26,6 +26,6 @@ returns-3 c b o =
     c .has .ensures ∙ o .depended (c .before .before .before .before .before .before .args .q) (c .before .before .before .before .before .before .pre .1)
     ∙ rw (ne-eqb _ _ (c .before .before .before .before .if1 .left), o .districts, o .records, sym (c .before .before .some-on .ensures) ∙ c .before .if2 .left)
 
-pub sound-decided-spec : {M : Type 1} → statement M
-sound-decided-spec =
+pub is-kept-spec : {M : Type 1} → statement M
+is-kept-spec =
     tie.close (tie.spec returns some-on-requires returns-2 has-requires returns-3)
