@@ -12,7 +12,6 @@ pub mod Open
 pub mod Openings
 pub mod Examples
 pub mod Alternatives
-pub mod Shaped
 pub mod Values
 pub mod Room
 pub mod Forgetting

@@ -12,7 +12,7 @@ mod Doing
 mod Filling
 mod Making
 mod Showing
-mod Needed
+mod Depended
 mod Working
 mod Touching
 mod Beginning

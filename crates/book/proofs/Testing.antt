@@ -13,11 +13,11 @@ use Rattle.polyvalues.specs.declared.polyvalue.Pair.{Pair}
 use Rattle.polyvalues.specs.declared.polyvalue.Polyvalue.{Polyvalue}
 use Rattle.polyvalues.specs.Pairs.{noPair, assignments, blank}
 use Rattle.polyvalues.specs.Values.{equal}
-use Rattle.polyvalues.specs.Polyvalues.{each, mostPairs, rowsOf, inUse, packed}
+use Rattle.polyvalues.specs.Polyvalues.{each, mostPairs, rowsOf, inUse, packed, AllRows}
 use Rattle.polyvalues.specs.Polyvalues.{sound as soundPolyvalue}
 use Rattle.polyvalues.specs.Operations.{sameRows, same, together}
 use Rattle.polyvalues.proofs.Laws.Packed.{sound-well-formed}
-use Rattle.polyvalues.proofs.Laws.Paired.{AllRows, rows-long}
+use Rattle.polyvalues.proofs.Laws.Paired.{rows-long}
 use Rattle.polyvalues.proofs.Known.{Held, all-rows}
 use Rattle.conditions.specs.Below.{first}
 use Rattle.conditions.specs.Places.{places}

@@ -5,6 +5,7 @@ pub mod Programs
 pub mod Forget
 pub mod Sound
 pub mod SoundTest
+pub mod Shaped
 pub mod Records
 pub mod Items
 pub mod Transactions

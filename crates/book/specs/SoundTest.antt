@@ -64,7 +64,7 @@ soundDistrict w b d = cond (ltb d (b .districts)) (soundRecord w b d (recordAt b
 
 -- ---- an item
 
--- its pending polyvalue, where it is on no transaction (0) or on the one numbered n
+-- "in an idle district pending equals held; in a busy one neither depends on its own transaction": on no transaction (0) or on the one numbered n
 unfoldable pub soundPending : ℕ → Book → ℕ → Item → Bool
 soundPending w b n x = cond (eqb n 0) (samePolyvalue (x .pending) (x .held)) (not (itemDepends w x (placeOf w b n)))
 

@@ -13,11 +13,10 @@ use Rattle.book.specs.Book.{noOpen, recordAt, itemAt, openAt, isOpen, placeOf, 
 use Rattle.book.specs.Forget.{decided, needed, remembered, forget}
 use Rattle.book.specs.Sound.{Sound}
 use Rattle.book.proofs.Laws.Rows.{getD-rows}
-use Rattle.book.proofs.Laws.Shaped.{Shaped}
+use Rattle.book.specs.Shaped.{Shaped, Whole}
 use Rattle.book.proofs.Laws.Sound.{place-named}
 use Rattle.book.proofs.Laws.But.{SoundBut, place-open}
 use Rattle.book.proofs.Laws.Forgetting.{forget-open, forget-is-open}
-use Rattle.book.proofs.Laws.Calls.{Whole}
 use Rattle.demands.specs.Calls.{Call}
 use Rattle.demands.specs.Past.{asksBegin}
 use Rattle.demands.specs.Demands.{rowWith, openAfter, Leaves}

@@ -15,7 +15,7 @@ use Rattle.book.specs.Book.{itemAt, itemOn}
 use Rattle.book.specs.Programs.{steps, run, touches}
 use Rattle.book.specs.Sound.{Sound}
 use Rattle.book.specs.Begin.{heldAt, touchesDistrict, begin}
-use Rattle.book.proofs.Laws.Shaped.{Shaped}
+use Rattle.book.specs.Shaped.{Shaped}
 use Rattle.book.proofs.Laws.Programs.{run-reads, run-frame}
 use Rattle.book.proofs.Laws.Touched.{touched-below}
 use Rattle.book.proofs.Laws.BeginSound.{Begins, touched-district, touched-idle, not-touched}

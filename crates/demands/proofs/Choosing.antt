@@ -25,7 +25,7 @@ use Rattle.book.specs.GiveUp.{giveUp}
 use Rattle.book.specs.Decide.{complete, abort}
 use Rattle.book.specs.Hear.{outcome, hear}
 use Rattle.book.proofs.Laws.Sound.{place-named}
-use Rattle.book.proofs.Laws.Shaped.{Shaped}
+use Rattle.book.specs.Shaped.{Shaped}
 use Rattle.book.proofs.Laws.But.{place-open, computing-on, busy-is}
 use Rattle.book.proofs.Laws.Events.{ready-keeps, complete-keeps, abort-keeps, give-up-values, hear-values}
 use Rattle.book.proofs.Laws.Calls.{GivesUp, Hears}

@@ -16,7 +16,7 @@ use Rattle.book.specs.Open.{goodOpening, opened}
 use Rattle.book.proofs.Laws.Sound.{on-none}
 use Rattle.book.proofs.Laws.Values.{held-complete, pending-complete}
 use Rattle.book.proofs.Laws.But.{busy-on}
-use Rattle.book.proofs.Laws.Calls.{Whole}
+use Rattle.book.specs.Shaped.{Whole}
 use Rattle.demands.specs.Calls.{Call, beginsWith, readies, givesUp, completes, aborts, hears, shows, answerTo, numberGiven, bookAfter, History, nothing, _then_, afterCalls}
 use Rattle.demands.specs.Past.{Said, asksBegin, began, Guess, serial, pastOf}
 use Rattle.demands.specs.Demands.{openingOf, districtOf, Says, Right, Serially, Demand3}

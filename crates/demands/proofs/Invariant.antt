@@ -17,9 +17,9 @@ use Rattle.book.specs.Ready.{readyAnswer, readied, ready}
 use Rattle.book.specs.GiveUp.{giveUpAnswer, gaveUp, giveUp}
 use Rattle.book.specs.Decide.{completeAnswer, abortAnswer, decide, complete, abort}
 use Rattle.book.specs.Hear.{hearAnswer, heard, hear}
-use Rattle.book.proofs.Laws.Shaped.{Shaped}
+use Rattle.book.specs.Shaped.{Shaped, Whole}
 use Rattle.book.proofs.Laws.BeginSound.{free-place}
-use Rattle.book.proofs.Laws.Calls.{Whole, done-refused, begin-refused}
+use Rattle.book.proofs.Laws.Calls.{done-refused, begin-refused}
 use Rattle.demands.specs.Calls.{Call, beginsWith, readies, givesUp, completes, aborts, hears, shows, answerTo, bookAfter}
 use Rattle.demands.specs.Past.{Said, said, asksBegin, asksComplete, wasCompleted, wasGivenUp, began, Guess, runs, serial}
 use Rattle.demands.specs.Demands.{Says}

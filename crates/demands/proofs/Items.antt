@@ -19,7 +19,7 @@ use Rattle.book.specs.Ready.{ready}
 use Rattle.book.specs.GiveUp.{giveUpAnswer, giveUpItem, gaveUp, giveUp}
 use Rattle.book.specs.Decide.{complete, abort}
 use Rattle.book.specs.Hear.{outcome, hearAnswer, hearItem, heard, hear}
-use Rattle.book.proofs.Laws.Shaped.{Shaped}
+use Rattle.book.specs.Shaped.{Shaped}
 use Rattle.book.proofs.Laws.Values.{forget-item, begin-item, give-up-item, hear-item}
 use Rattle.book.proofs.Laws.Events.{ready-keeps, complete-keeps, abort-keeps}
 use Rattle.book.proofs.Laws.But.{computing-on, busy-is, busy-on}

@@ -14,7 +14,7 @@ use Rattle.book.specs.Sound.{Sound}
 use Rattle.book.specs.Show.{showAnswer}
 use Rattle.book.proofs.Laws.Answers.{test-false}
 use Rattle.book.proofs.Laws.Sound.{test-sound}
-use Rattle.book.proofs.Laws.Shaped.{Shaped}
+use Rattle.book.specs.Shaped.{Shaped}
 use Rattle.book.proofs.Laws.But.{sound-but}
 use Rattle.book.proofs.Laws.Forget.{forget-sound}
 use Rattle.book.proofs.Laws.Events.{ready-keeps, complete-keeps, abort-keeps}

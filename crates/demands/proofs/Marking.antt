@@ -22,7 +22,7 @@ use Rattle.book.specs.Ready.{reported, ready}
 use Rattle.book.specs.GiveUp.{marked, giveUp}
 use Rattle.book.specs.Decide.{withDecision, complete, abort}
 use Rattle.book.specs.Hear.{hear}
-use Rattle.book.proofs.Laws.Shaped.{Shaped}
+use Rattle.book.specs.Shaped.{Shaped}
 use Rattle.book.proofs.Laws.Including.{including-own, member-including}
 use Rattle.book.proofs.Laws.But.{place-open, computing-on, busy-is}
 use Rattle.book.proofs.Laws.Calls.{GivesUp}

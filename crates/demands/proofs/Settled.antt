@@ -9,17 +9,16 @@ use borrow.Author.Tests.{ltb-true, ltb-false}
 use Rattle.conditions.proofs.Laws.Below.{by-cases}
 use Rattle.polyvalues.specs.declared.polyvalue.Polyvalue.{Polyvalue}
 use Rattle.polyvalues.specs.Pairs.{at}
-use Rattle.polyvalues.specs.Polyvalues.{inUse, packed}
+use Rattle.polyvalues.specs.Polyvalues.{inUse, packed, AllRows}
 use Rattle.polyvalues.specs.Polyvalues.{sound as soundPolyvalue}
 use Rattle.polyvalues.proofs.Laws.Canon.{unique}
-use Rattle.polyvalues.proofs.Laws.Paired.{AllRows}
 use Rattle.polyvalues.proofs.Laws.Packed.{sound-well-formed, sound-packed}
 use Rattle.book.specs.declared.Book.{Book}
 use Rattle.book.specs.declared.Open.{Open}
 use Rattle.book.specs.Book.{mostDistricts, mostItems, noRecord, voidItem, noOpen, recordAt, itemAt, someDepends, someOn}
 use Rattle.book.specs.Forget.{needed, remembered}
 use Rattle.book.specs.Begin.{heldAt}
-use Rattle.book.proofs.Laws.Calls.{Whole}
+use Rattle.book.specs.Shaped.{Whole}
 use Rattle.demands.specs.Calls.{Call}
 use Rattle.demands.specs.Demands.{pendingAt, Values, EachValue, Records, openAfter, Leaves}
 

@@ -21,14 +21,14 @@ use Rattle.book.specs.Ready.{readyAnswer, reported, readied, ready}
 use Rattle.book.specs.GiveUp.{giveUpAnswer, marked, gaveUp, giveUp}
 use Rattle.book.specs.Decide.{completeAnswer, abortAnswer, withDecision, decide, complete, abort}
 use Rattle.book.specs.Hear.{hearAnswer, heard, hear}
-use Rattle.book.proofs.Laws.Shaped.{Shaped}
+use Rattle.book.specs.Shaped.{Shaped, Whole}
 use Rattle.book.proofs.Laws.But.{sound-but}
 use Rattle.book.proofs.Laws.ReadySound.{ready-shaped, ready-records, ready-opens, ready-but}
 use Rattle.book.proofs.Laws.GiveUpSound.{give-up-shaped, give-up-records, give-up-opens, give-up-but}
 use Rattle.book.proofs.Laws.DecideSound.{decide-shaped, decide-opens, decide-but}
 use Rattle.book.proofs.Laws.HearSound.{hear-shaped, hear-records, hear-but}
 use Rattle.book.proofs.Laws.BeginSound.{Begins, begin-shaped, begin-records, begin-opens, free-place, begin-but}
-use Rattle.book.proofs.Laws.Calls.{Whole, Readies, GivesUp, Completes, Aborts, Hears, done-accepted, begin-accepted, ready-tests, give-up-tests, complete-tests, abort-tests, hear-tests, begin-tests, ready-whole, give-up-whole, complete-whole, abort-whole, hear-whole, begin-whole}
+use Rattle.book.proofs.Laws.Calls.{Readies, GivesUp, Completes, Aborts, Hears, done-accepted, begin-accepted, ready-tests, give-up-tests, complete-tests, abort-tests, hear-tests, begin-tests, ready-whole, give-up-whole, complete-whole, abort-whole, hear-whole, begin-whole}
 use Rattle.demands.specs.Calls.{beginsWith}
 use Rattle.demands.specs.Demands.{openAfter}
 use Rattle.demands.proofs.Acts.{Left, left, Acts, acts}

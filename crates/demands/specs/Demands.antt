@@ -18,8 +18,7 @@ use Rattle.conditions.specs.Example.{Example10}
 use Rattle.polyvalues.specs.declared.polyvalue.Pair.{Pair}
 use Rattle.polyvalues.specs.Pairs.{at, hits, asked}
 use Rattle.polyvalues.specs.Asked.{askedAs, askedNumber}
-use Rattle.polyvalues.specs.Polyvalues.{Complete, WellFormed, inUse}
-use Rattle.polyvalues.specs.Polyvalues.{mostPairs}
+use Rattle.polyvalues.specs.Polyvalues.{mostPairs, Complete, WellFormed, inUse}
 use Rattle.polyvalues.specs.Operations.{reduce, select}
 use Rattle.book.specs.declared.Book.{Book}
 use Rattle.book.specs.declared.Open.{Open}
@@ -43,8 +42,7 @@ use Rattle.book.specs.Decide.{someNotReady, withDecision}
 use Rattle.book.specs.Hear.{outcome}
 use Rattle.book.specs.Show.{heldLine, showAnswer, shown}
 use Rattle.book.specs.Examples.{twice, told, Example1, Example2, Example3, Example4, Example5, Example6, Example7, Example8, Example9}
-use Rattle.book.proofs.Laws.Shaped.{Shaped}
-use Rattle.book.proofs.Laws.Calls.{Whole}
+use Rattle.book.specs.Shaped.{Shaped, Whole}
 use Rattle.sheet.specs.declared.events.Event.{Event}
 use Rattle.sheet.specs.Readers.{wrong, right}
 use Rattle.sheet.specs.Sections.{Sheet, sheet}

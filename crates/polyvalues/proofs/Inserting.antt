@@ -19,11 +19,11 @@ use Rattle.polyvalues.specs.declared.polyvalue.Polyvalue.{Polyvalue}
 use Rattle.polyvalues.specs.declared.polyvalue.Joined.{Joined}
 use Rattle.polyvalues.specs.Values.{below, equal}
 use Rattle.polyvalues.specs.Pairs.{pair, assignments, noPair, certain}
-use Rattle.polyvalues.specs.Polyvalues.{mostPairs, paired, rowsOf, inUse, padded, packed, fitted}
+use Rattle.polyvalues.specs.Polyvalues.{mostPairs, paired, rowsOf, inUse, padded, packed, fitted, AllRows}
 use Rattle.polyvalues.specs.Simplify.{insert}
 use Rattle.polyvalues.specs.Rows.{valueAt, PlaceOf, hasAt, carried, moved}
 use Rattle.polyvalues.proofs.Laws.Values.{equal-true, below-else}
-use Rattle.polyvalues.proofs.Laws.Paired.{rows-packed, paired-set, values-paired, conditions-paired, AllRows}
+use Rattle.polyvalues.proofs.Laws.Paired.{rows-packed, paired-set, values-paired, conditions-paired}
 use Rattle.polyvalues.proofs.Laws.Rows.{insert-new, insert-same}
 
 -- a pair of the code is known by its value and its condition's number

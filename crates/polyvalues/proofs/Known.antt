@@ -17,9 +17,9 @@ use borrow.Author.Tests.{lt-ltb}
 use Rattle.conditions.specs.declared.condition.Condition.{Condition}
 use Rattle.conditions.specs.Places.{places}
 use Rattle.conditions.proofs.Laws.Below.{and-left, and-right}
-use Rattle.polyvalues.specs.Polyvalues.{each, ofPlaces, mostPairs, paired, rowsOf, inUse}
+use Rattle.polyvalues.specs.Polyvalues.{each, ofPlaces, mostPairs, paired, rowsOf, inUse, AllRows}
 use Rattle.conditions.proofs.condition.Condition as TCondition
-use Rattle.polyvalues.proofs.Laws.Paired.{AllRows, rows-long}
+use Rattle.polyvalues.proofs.Laws.Paired.{rows-long}
 use Rattle.polyvalues.proofs.polyvalue.Polyvalue as TPolyvalue
 
 -- q is a value that code holds

@@ -1,4 +1,5 @@
--- What hearing and giving up do to a polyvalue, and how much room that takes. (document 01, Events) Each makes sense for any list of pairs.
+-- What hearing and giving up do to a polyvalue, and how much room that takes (document 01, Events); and whether two are the same ("in an idle district pending equals held",
+-- The book). Each makes sense for any list of pairs.
 use mathlib.Core.Bool.{Bool, true, false, not, _&&_, _||_}
 use mathlib.Core.List.{List, [], _∷_, _++_, map}
 use Prim.Native.Nat.{ℕ, _+_}
@@ -45,7 +46,9 @@ different (p ∷ ps) = digit (not (occurs (p .value) ps)) + different ps
 unfoldable pub together : List Pair → List Pair → ℕ
 together ps qs = different (ps ++ qs)
 
--- two lists are the same, row by row
+-- ---- equal rows
+
+-- two lists are the same, row by row, by the test f of two rows
 abbrev pub sameRows : {A : Type 0} → (A → A → Bool) → List A → List A → Bool
 sameRows f [] [] = true
 sameRows f [] (y ∷ ys) = false

@@ -77,6 +77,11 @@ paired (v ∷ vs) (c ∷ cs) = record { value = v; condition = c } ∷ paired vs
 abbrev pub rowsOf : Polyvalue → List Pair
 rowsOf q = paired (q .values) (q .conditions)
 
+-- q has all its rows, as every polyvalue that code holds
+pub record AllRows (q : Polyvalue) : Type 0 where
+  pub values : length (q .values) ≡ mostPairs
+  pub conditions : length (q .conditions) ≡ mostPairs
+
 -- the pairs that count
 unfoldable pub inUse : Polyvalue → List Pair
 inUse q = take (q .count) (rowsOf q)

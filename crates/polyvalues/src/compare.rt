@@ -1,16 +1,14 @@
 // Two polyvalues side by side: whether they are the same pairs, and how many values they have
 // together.
 ghost use mathlib.Core.Path.{_≡_};
-ghost use mathlib.Core.Bool.{not, _&&_};
+ghost use mathlib.Core.Bool.{not};
 ghost use mathlib.Core.List.{_++_};
 ghost use Prim.Native.Nat.{_+_, _<_, _≤_, suc};
-ghost use lib.Dec.{eqb};
 ghost use lib.ListN.{length, drop, getD};
 ghost use Rattle.conditions.specs.Sets.{digit};
-ghost use Rattle.polyvalues.specs.Values.{equal};
-ghost use Rattle.polyvalues.specs.Pairs.{assignments, noPair};
+ghost use Rattle.polyvalues.specs.Pairs.{noPair};
 ghost use Rattle.polyvalues.specs.Polyvalues.{mostPairs, inUse};
-ghost use Rattle.polyvalues.specs.Operations.{occurs, different, together, same};
+ghost use Rattle.polyvalues.specs.Operations.{samePair, occurs, different, together, same};
 use crate::polyvalue::Pair;
 use crate::polyvalue::Polyvalue;
 use crate::polyvalue::nothing;
@@ -18,7 +16,7 @@ use crate::polyvalue::nothing;
 impl Pair {
     // Whether it is the same value under the same condition.
     pub(crate) fn same(self, other: Pair) -> bool
-        ensures { λ r. ⌜ r ≡ (equal (self .value) (other .value) && eqb (assignments self) (assignments other)) ⌝ }
+        ensures { λ r. ⌜ r ≡ samePair self other ⌝ }
     {
         if !self.equal(other) {
             return false;

@@ -20,7 +20,7 @@ field text = code " " ∷ text
 abbrev pub head : ℕ → Answer → List ℕ
 head position a = joined (code " ") (decimal position ∷ decimal (answerNumber a) ∷ [])
 
--- an eventResult's line is at the start of a buffer that was l and is m, and r is what playing the event gave
+-- the line of an event's result is at the start of a buffer that was l and is m, and r is what playing the event gave
 pub record Plays (x : EventResult) (position : ℕ) (l : List ℕ) (r : Played) (m : List ℕ) : Type 0 where
   pub result : r ≡ record { written = To (length (resultLine position x)); book = x .book }
   pub buffer : m ≡ written l 0 (resultLine position x)

@@ -32,12 +32,12 @@ use Rattle.book.specs.Records.{beginRecord}
 use Rattle.book.specs.Items.{becomes}
 use Rattle.book.specs.Begin.{someStep, badStep, outside, heldAt, results, someBusy, tooMany, touchesDistrict, beginItem, begun}
 use Rattle.book.specs.Sound.{Sound}
-use Rattle.book.proofs.Laws.Rows.{length-rows, getD-rows, past-rows}
+use Rattle.book.proofs.Laws.Rows.{length-rows, getD-rows, past-rows, getD-set}
 use Rattle.book.proofs.Laws.Programs.{run-reads, run-range}
 use Rattle.book.proofs.Laws.Touched.{touched-below}
 use Rattle.book.proofs.Laws.Touched.{touched-idle as district-idle}
 use Rattle.book.proofs.Laws.Sound.{place-named}
-use Rattle.book.proofs.Laws.Shaped.{ShapedItem, Shaped, getD-set}
+use Rattle.book.specs.Shaped.{ShapedItem, Shaped}
 use Rattle.book.proofs.Laws.Values.{begin-item}
 use Rattle.book.proofs.Laws.But.{DistrictRow, ItemRow, OpenRow, SoundBut, sound-but, placeOf-is, placeOf-kept, seen-same, district-stays, item-stays, on-busy, place-open}
 use Rattle.polyvalues.proofs.Laws.Paired.{packed-rows}

@@ -25,7 +25,7 @@ use Rattle.book.specs.Hear.{hearAnswer, heard, hear}
 use Rattle.book.specs.Sound.{Sound}
 use Rattle.book.proofs.Laws.Answers.{test-false, later-accepted}
 use Rattle.book.proofs.Laws.Sound.{test-sound}
-use Rattle.book.proofs.Laws.Shaped.{Shaped}
+use Rattle.book.specs.Shaped.{Shaped, Whole}
 use Rattle.book.proofs.Laws.But.{SoundBut, sound-but}
 use Rattle.book.proofs.Laws.Forgetting.{forget-shaped, forget-makes-sound}
 use Rattle.book.proofs.Laws.ReadySound.{ready-shaped, ready-but}
@@ -33,11 +33,6 @@ use Rattle.book.proofs.Laws.GiveUpSound.{give-up-shaped, give-up-but}
 use Rattle.book.proofs.Laws.DecideSound.{decide-shaped, decide-but}
 use Rattle.book.proofs.Laws.HearSound.{hear-shaped, hear-but}
 use Rattle.book.proofs.Laws.BeginSound.{Begins, begin-shaped, begin-but}
-
--- a sound book, with the lengths that code gives it
-pub record Whole (w : ℕ) (b : Book) : Type 0 where
-  pub sound : Sound w b
-  pub shaped : Shaped w b
 
 -- ---- what a call returns
 

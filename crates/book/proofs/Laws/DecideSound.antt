@@ -12,7 +12,8 @@ use Rattle.book.specs.declared.Open.{Open}
 use Rattle.book.specs.declared.Book.{Book}
 use Rattle.book.specs.Book.{noOpen, recordAt, openAt, itemOn, placeOf, openOf}
 use Rattle.book.specs.Decide.{withDecision, decide}
-use Rattle.book.proofs.Laws.Shaped.{Shaped, getD-set}
+use Rattle.book.specs.Shaped.{Shaped}
+use Rattle.book.proofs.Laws.Rows.{getD-set}
 use Rattle.book.proofs.Laws.But.{OpenRow, SoundBut, Seen, seen-same, district-stays, place-open}
 use Rattle.book.proofs.Laws.Changing.{change-but}
 

@@ -23,7 +23,7 @@ use Rattle.book.specs.GiveUp.{giveUpAnswer, gaveUp, giveUp}
 use Rattle.book.specs.Decide.{completeAnswer, abortAnswer, decide, complete, abort}
 use Rattle.book.specs.Hear.{hearAnswer, outcome, heard, hear}
 use Rattle.book.proofs.Laws.Sound.{place-named}
-use Rattle.book.proofs.Laws.Shaped.{Shaped}
+use Rattle.book.specs.Shaped.{Shaped}
 use Rattle.book.proofs.Laws.Values.{valueUnder, forget-item, ready-item, decide-item, begin-held, begin-pending, give-up-held, give-up-pending, hear-held, hear-pending}
 use Rattle.book.proofs.Laws.Settling.{concerned-busy}
 use Rattle.book.proofs.Laws.Calls.{GivesUp, Hears, done-accepted, begin-accepted, begin-tests, give-up-tests, hear-tests}

@@ -14,7 +14,7 @@ use Rattle.book.specs.Forget.{decided, needed, remembered, forget}
 use Rattle.book.specs.Sound.{Sound}
 use Rattle.book.proofs.Laws.Rows.{length-rows, getD-rows}
 use Rattle.book.proofs.Laws.Sound.{place-named}
-use Rattle.book.proofs.Laws.Shaped.{Shaped}
+use Rattle.book.specs.Shaped.{Shaped}
 use Rattle.book.proofs.Laws.But.{SoundBut, placeOf-kept, seen-same, district-stays, item-stays, on-busy, busy-on, but-sound}
 
 -- forgetting keeps the lengths

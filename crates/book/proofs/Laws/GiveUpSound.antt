@@ -16,10 +16,10 @@ use Rattle.book.specs.Records.{computingOn, busyOn}
 use Rattle.book.specs.Items.{there, concerned, drop, split}
 use Rattle.book.specs.GiveUp.{giveUpItem, marked, gaveUp}
 use Rattle.book.specs.Sound.{Sound}
-use Rattle.book.proofs.Laws.Rows.{length-rows, past-rows}
+use Rattle.book.proofs.Laws.Rows.{length-rows, past-rows, getD-set}
 use Rattle.book.proofs.Laws.Sound.{place-named}
 use Rattle.book.proofs.Laws.Including.{including-other, including-lt}
-use Rattle.book.proofs.Laws.Shaped.{ShapedItem, Shaped, getD-set}
+use Rattle.book.specs.Shaped.{ShapedItem, Shaped}
 use Rattle.book.proofs.Laws.Values.{give-up-item}
 use Rattle.book.proofs.Laws.But.{DistrictRow, ItemRow, OpenRow, SoundBut, sound-but, idle-district, Seen, seen-same, district-stays, item-stays, place-open, computing-on, busy-is}
 use Rattle.book.proofs.Laws.Changing.{change-but}

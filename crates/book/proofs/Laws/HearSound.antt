@@ -15,9 +15,9 @@ use Rattle.book.specs.Records.{busyOn, hearRecord}
 use Rattle.book.specs.Items.{there, concerned, install, drop, reduceItem}
 use Rattle.book.specs.Hear.{outcome, hearItem, heard}
 use Rattle.book.specs.Sound.{Sound}
-use Rattle.book.proofs.Laws.Rows.{length-rows, past-rows}
+use Rattle.book.proofs.Laws.Rows.{length-rows, past-rows, getD-set}
 use Rattle.book.proofs.Laws.Sound.{place-named}
-use Rattle.book.proofs.Laws.Shaped.{ShapedItem, Shaped, getD-set}
+use Rattle.book.specs.Shaped.{ShapedItem, Shaped}
 use Rattle.book.proofs.Laws.Values.{hear-item}
 use Rattle.book.proofs.Laws.But.{DistrictRow, ItemRow, SoundBut, sound-but, idle-district, item-stays, place-open}
 use Rattle.book.proofs.Laws.Changing.{change-but}

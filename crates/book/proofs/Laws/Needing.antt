@@ -26,9 +26,8 @@ use Rattle.book.specs.Ready.{reported, readied}
 use Rattle.book.specs.Decide.{withDecision, decide}
 use Rattle.book.specs.Begin.{someBusy, touchesDistrict, beginItem, begun}
 use Rattle.book.specs.Sound.{Sound}
-use Rattle.book.proofs.Laws.Rows.{getD-rows, rows-set}
+use Rattle.book.proofs.Laws.Rows.{getD-rows, rows-set, getD-set}
 use Rattle.book.proofs.Laws.Touched.{touched-item-idle, touched-idle}
-use Rattle.book.proofs.Laws.Shaped.{getD-set}
 use Rattle.book.proofs.Laws.But.{computing-on, busy-on}
 use Rattle.book.proofs.Laws.Forget.{remembered-stays, forget-none, decided-open, decided-needed}
 

@@ -13,9 +13,8 @@ use Rattle.book.specs.Book.{mostDistricts, mostItems, noRecord, noItem, 
 use Rattle.book.specs.Open.{goodItems, goodOpening, openedItem, openedBook, opened}
 use Rattle.book.proofs.Laws.Same.{five}
 use Rattle.book.proofs.Laws.Open.{opened-sound}
-use Rattle.book.proofs.Laws.Shaped.{ShapedItem, Shaped}
+use Rattle.book.specs.Shaped.{ShapedItem, Shaped, Whole}
 use Rattle.polyvalues.proofs.Laws.Paired.{packed-rows}
-use Rattle.book.proofs.Laws.Calls.{Whole}
 
 opened-item-shaped : (w : ℕ) (x : Opening) → ShapedItem (openedItem w x)
 unfolding openedItem certain

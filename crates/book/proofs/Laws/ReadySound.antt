@@ -15,7 +15,8 @@ use Rattle.book.specs.Book.{mostDistricts, noRecord, noOpen, recordAt, i
 use Rattle.book.specs.Records.{computingOn, readyRecord}
 use Rattle.book.specs.Ready.{reported, readied}
 use Rattle.book.proofs.Laws.Including.{including-own, including-other, including-lt}
-use Rattle.book.proofs.Laws.Shaped.{Shaped, getD-set}
+use Rattle.book.specs.Shaped.{Shaped}
+use Rattle.book.proofs.Laws.Rows.{getD-set}
 use Rattle.book.proofs.Laws.But.{DistrictRow, OpenRow, SoundBut, Seen, seen-same, district-stays, item-stays, place-open, computing-on}
 use Rattle.book.proofs.Laws.Changing.{change-but}
 

@@ -1,9 +1,14 @@
 -- The first n rows changed, row by row: what a loop has done before row n, and what each row is afterwards.
 use mathlib.Core.Path.{_≡_, refl, sym, _∙_, ap, ap₂}
+use mathlib.Core.Bool.{cond}
 use mathlib.Core.List.{List, [], _∷_}
 use Prim.Native.Nat.{ℕ, zero, suc, _+_, _≤_, _<_}
 use native.Mathlib.Omega.{arith}
+use lib.Dec.{eqb}
 use lib.ListN.{length, getD, set}
+use lib.Seq.{getD-set-same, getD-set-other}
+use borrow.Author.Tests.{eqb-true, eqb-false}
+use Rattle.conditions.proofs.Laws.Below.{by-cases}
 use Rattle.book.specs.Rows.{rowsFrom, rows}
 
 module _ {A : Type 0} (f : ℕ → A → A) (z : A) where
@@ -83,3 +88,10 @@ module _ {A : Type 0} (f : ℕ → A → A) (z : A) where
   -- one that changes nothing, of a table where a row is set, changes only that row
   pub rows-set : (n : ℕ) (xs : List A) (i : ℕ) (y : A) → i < n → ((j : ℕ) → j < n → f j (getD xs j z) ≡ getD xs j z) → rows f n (set xs i y) ≡ set xs i (f i y)
   rows-set n xs i y h e = set-else 0 n xs i y h (λ j l m. here j (getD xs j z) ∙ e j l) ∙ ap (set xs i) (here i y)
+
+-- a row after one row is set
+pub getD-set : {A : Type 0} (xs : List A) (i : ℕ) (x z : A) (j : ℕ) → i < length xs → getD (set xs i x) j z ≡ cond (eqb j i) x (getD xs j z)
+getD-set xs i x z j h =
+    by-cases (eqb j i)
+    (λ e. rw (e, eqb-true j i e) (getD-set-same xs i x z h))
+    (λ e. rw e (getD-set-other xs i j x z (eqb-false j i e)))

@@ -20,7 +20,7 @@ use Rattle.book.specs.Book.{recordAt, recordOn, itemOn, itemDepends}
 use Rattle.book.specs.Records.{busyOn}
 use Rattle.book.specs.Items.{there, concerned, install, drop, split, reduceItem}
 use Rattle.book.proofs.Laws.Room.{together-swap, together-self, together-reduce}
-use Rattle.book.proofs.Laws.Shaped.{ShapedItem}
+use Rattle.book.specs.Shaped.{ShapedItem}
 use Rattle.book.proofs.Laws.But.{ItemRow, on-busy, busy-on, busy-is, is-busy}
 
 -- ---- what depends

@@ -32,7 +32,7 @@ use Rattle.book.specs.Decide.{decide}
 use Rattle.book.specs.Hear.{outcome, hearItem, heard}
 use Rattle.book.specs.Sound.{Sound}
 use Rattle.book.proofs.Laws.Rows.{getD-rows}
-use Rattle.book.proofs.Laws.Shaped.{Shaped}
+use Rattle.book.specs.Shaped.{Shaped}
 
 -- the value of a polyvalue under an assignment
 abbrev pub valueUnder : Polyvalue → ℕ → ℤ

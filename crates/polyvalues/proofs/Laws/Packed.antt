@@ -14,10 +14,10 @@ use Rattle.polyvalues.specs.declared.polyvalue.Pair.{Pair}
 use Rattle.polyvalues.specs.declared.polyvalue.Polyvalue.{Polyvalue}
 use Rattle.polyvalues.specs.Values.{equal}
 use Rattle.polyvalues.specs.Pairs.{assignments, noPair}
-use Rattle.polyvalues.specs.Polyvalues.{each, mostPairs, sound, WellFormed, wellFormed, rowsOf, inUse, tidy, padded, packed}
+use Rattle.polyvalues.specs.Polyvalues.{each, mostPairs, sound, WellFormed, wellFormed, rowsOf, inUse, tidy, padded, packed, AllRows}
 use Rattle.polyvalues.proofs.Laws.Values.{equal-true}
 use Rattle.polyvalues.proofs.Laws.Holds.{same-pair}
-use Rattle.polyvalues.proofs.Laws.Paired.{rows-packed, values-paired, conditions-paired, AllRows, rows-long}
+use Rattle.polyvalues.proofs.Laws.Paired.{rows-packed, values-paired, conditions-paired, rows-long}
 use Rattle.polyvalues.proofs.Laws.WellFormed.{well-formed-true, true-well-formed}
 
 pub inUse-packed : (ps : List Pair) → inUse (packed ps) ≡ ps

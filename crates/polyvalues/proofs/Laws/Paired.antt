@@ -10,7 +10,7 @@ use Rattle.conditions.specs.Conditions.{ofNumber}
 use Rattle.polyvalues.specs.declared.polyvalue.Pair.{Pair}
 use Rattle.polyvalues.specs.declared.polyvalue.Polyvalue.{Polyvalue}
 use Rattle.polyvalues.specs.Pairs.{noPair}
-use Rattle.polyvalues.specs.Polyvalues.{mostPairs, paired, padded, rowsOf, packed}
+use Rattle.polyvalues.specs.Polyvalues.{AllRows, mostPairs, paired, padded, rowsOf, packed}
 
 -- the values and the conditions of rows make these rows
 pub paired-of : (ps : List Pair) → paired (map (λ p. p .value) ps) (map (λ p. p .condition) ps) ≡ ps
@@ -55,11 +55,6 @@ paired-at [] (c ∷ cs) i e = absurd (omega arith)
 paired-at (v ∷ vs) [] i e = absurd (omega arith)
 paired-at (v ∷ vs) (c ∷ cs) zero e = refl
 paired-at (v ∷ vs) (c ∷ cs) (suc i) e = paired-at vs cs i (omega arith)
-
--- q has all its rows, as every polyvalue that code holds
-pub record AllRows (q : Polyvalue) : Type 0 where
-  pub values : length (q .values) ≡ mostPairs
-  pub conditions : length (q .conditions) ≡ mostPairs
 
 pub rows-long : {q : Polyvalue} → AllRows q → length (rowsOf q) ≡ mostPairs
 rows-long {q} all = length-paired (q .values) (q .conditions) (all .values ∙ sym (all .conditions)) ∙ all .values

@@ -13,7 +13,7 @@ use Rattle.book.specs.declared.Opening.{Opening}
 use Rattle.book.specs.Answers.{accepted}
 use Rattle.book.specs.Book.{mostDistricts, mostItems, noBook}
 use Rattle.book.specs.Open.{goodItem, goodItems, goodOpening, opened}
-use Rattle.book.proofs.Laws.Calls.{Whole}
+use Rattle.book.specs.Shaped.{Whole}
 use Rattle.book.proofs.Laws.OpenedShaped.{opened-whole}
 use Rattle.sheet.specs.Readers.{Read, wrong, right, andThen, repeat, byte, word, between, end}
 use Rattle.sheet.specs.Sections.{Sheet, code, districts, value, item, itemMore, items, events, sheet}

@@ -1,4 +1,4 @@
--- The first loop's invariant: the items before i are sound, and these places are needed. The second's: the rows before i are sound.
+-- The first loop's invariant: the items before i are sound, and these places are depended on. The second's: the rows before i are sound.
 use mathlib.Core.Path.{_≡_, refl, sym, _∙_}
 use mathlib.Core.Bool.{true, and-false}
 use Prim.Native.Nat.{_≤_, _-_}
@@ -12,22 +12,22 @@ use Rattle.conditions.proofs.Laws.Below.{all-more, all-fails}
 use Rattle.book.specs.Book.{mostItems}
 use Rattle.book.specs.SoundTest.{soundItem, sound}
 use Rattle.book.specs.Tables.{TablesOf}
-use Rattle.book.proofs.Needed.{NeededBy, none-needed, needed-more, all-needed}
+use Rattle.book.proofs.Depended.{DependedBy, none-depended, depended-more, all-depended}
 use Rattle.book.proofs.Testing.{few-rows, number-last, item-row, item-past}
 use Rattle.book.proofs.Book.is_sound.Statement.{statement}
 use Rattle.book.proofs.Book.is_sound.Tie as tie
 
 abbrev Inv-loop : tie.InvT-loop
-Inv-loop self count districts records places needed₀ i₀ needed i = (i ≤ count) × (all i (soundItem width self) ≡ true) × NeededBy width self i needed
+Inv-loop self count districts records places depended₀ i₀ depended i = (i ≤ count) × (all i (soundItem width self) ≡ true) × DependedBy width self i depended
 
 abbrev μ-loop : tie.MeasureT-loop
-μ-loop self count districts records places needed₀ i₀ needed i = count - i
+μ-loop self count districts records places depended₀ i₀ depended i = count - i
 
 abbrev Inv-loop2 : tie.InvT-loop2
-Inv-loop2 self count districts records places needed i₀ i = (count ≤ i) × (i ≤ mostItems) × (all i (soundItem width self) ≡ true)
+Inv-loop2 self count districts records places depended i₀ i = (count ≤ i) × (i ≤ mostItems) × (all i (soundItem width self) ≡ true)
 
 abbrev μ-loop2 : tie.MeasureT-loop2
-μ-loop2 self count districts records places needed i₀ i = mostItems - i
+μ-loop2 self count districts records places depended i₀ i = mostItems - i
 
 sound-counts-requires : tie.Need-sound-counts-requires Inv-loop μ-loop Inv-loop2 μ-loop2
 sound-counts-requires c κs = search needs
@@ -38,7 +38,7 @@ returns c = rw (sym (c .before .sound-counts .ensures) ∙ not-true _ (c .if1 .t
 
 loop-holds : tie.Need-loop-holds Inv-loop μ-loop Inv-loop2 μ-loop2
 unfolding all
-loop-holds c = (omega arith, refl, none-needed width (c .before .before .before .before .args .t1))
+loop-holds c = (omega arith, refl, none-depended width (c .before .before .before .before .args .t1))
 
 mul-x : tie.Need-mul-x Inv-loop μ-loop Inv-loop2 μ-loop2
 mul-x c = record { fits = omega (arith, few-rows (c .before .before .before .before .before .before .args .t1 .districts) (c .before .before .before .before .before .before .args .t1 .count) (c .before .before .before .before .before .sound-counts .ensures) (c .before .before .before .before .if1 .left) .1) }
@@ -67,7 +67,7 @@ unfolding soundItem
 loop-again c = (
   omega arith,
   rw add-one (all-more _ _ (c .before .before .before .before .before .loop .inv .1) (item-row width (c .before .before .before .before .before .before .before .before .before .before .args .t1) (omega arith) ∙ sym (c .before .sound-row .ensures (c .before .before .before .before .before .before .before .before .before .before .args .t1) refl refl refl (c .before .before .places-of .ensures)) ∙ not-false _ (c .if2 .left))),
-  needed-more width (c .before .before .before .before .before .before .before .before .before .before .args .t1) (c .before .before .before .before .before .loop .i) (c .before .before .before .before .before .loop .depended) (c .before .before .before .before .before .loop .inv .2) (c .before .before .places-of .ensures),
+  depended-more width (c .before .before .before .before .before .before .before .before .before .before .args .t1) (c .before .before .before .before .before .loop .i) (c .before .before .before .before .before .loop .depended) (c .before .before .before .before .before .loop .inv .2) (c .before .before .places-of .ensures),
 )
 
 loop2-holds : tie.Need-loop2-holds Inv-loop μ-loop Inv-loop2 μ-loop2
@@ -106,7 +106,7 @@ sound-districts-requires c κs = search needs
 
 returns-4 : tie.Need-returns-4 Inv-loop μ-loop Inv-loop2 μ-loop2
 unfolding sound
-returns-4 c = rw (sym (c .before .sound-districts .ensures (c .before .before .before .before .before .before .before .before .before .before .before .args .t1) (let last : c .before .before .before .before .before .before .loop .i ≡ c .before .before .before .before .before .before .before .before .before .before .before .args .t1 .count = omega (arith, c .before .before .before .before .before .before .loop .inv .0) in record { last = refl; districts = refl; records = refl; places = refl; depended = all-needed width (c .before .before .before .before .before .before .before .before .before .before .before .args .t1) (c .before .before .before .before .before .before .loop .depended) last (c .before .before .before .before .before .before .loop .inv .2) })) ∙ not-true _ (c .if4 .taken), and-false)
+returns-4 c = rw (sym (c .before .sound-districts .ensures (c .before .before .before .before .before .before .before .before .before .before .before .args .t1) (let last : c .before .before .before .before .before .before .loop .i ≡ c .before .before .before .before .before .before .before .before .before .before .before .args .t1 .count = omega (arith, c .before .before .before .before .before .before .loop .inv .0) in record { last = refl; districts = refl; records = refl; places = refl; depended = all-depended width (c .before .before .before .before .before .before .before .before .before .before .before .args .t1) (c .before .before .before .before .before .before .loop .depended) last (c .before .before .before .before .before .before .loop .inv .2) })) ∙ not-true _ (c .if4 .taken), and-false)
 
 sound-places-requires : tie.Need-sound-places-requires Inv-loop μ-loop Inv-loop2 μ-loop2
 sound-places-requires c κs = few-rows (c .before .before .before .before .before .before .before .before .before .before .before .args .t1 .districts) (c .before .before .before .before .before .before .before .before .before .before .before .args .t1 .count) (c .before .before .before .before .before .before .before .before .before .before .sound-counts .ensures) (c .before .before .before .before .before .before .before .before .before .if1 .left) .0
@@ -114,7 +114,7 @@ sound-places-requires c κs = few-rows (c .before .before .before .before .befor
 returns-5 : tie.Need-returns-5 Inv-loop μ-loop Inv-loop2 μ-loop2
 unfolding sound
 returns-5 c =
-    let tables : TablesOf width (c .before .before .before .before .before .before .before .before .before .before .before .before .args .t1) _ = (let last : c .before .before .before .before .before .before .before .loop .i ≡ c .before .before .before .before .before .before .before .before .before .before .before .before .args .t1 .count = omega (arith, c .before .before .before .before .before .before .before .loop .inv .0) in record { last = refl; districts = refl; records = refl; places = refl; depended = all-needed width (c .before .before .before .before .before .before .before .before .before .before .before .before .args .t1) (c .before .before .before .before .before .before .before .loop .depended) last (c .before .before .before .before .before .before .before .loop .inv .2) }) in
+    let tables : TablesOf width (c .before .before .before .before .before .before .before .before .before .before .before .before .args .t1) _ = (let last : c .before .before .before .before .before .before .before .loop .i ≡ c .before .before .before .before .before .before .before .before .before .before .before .before .args .t1 .count = omega (arith, c .before .before .before .before .before .before .before .loop .inv .0) in record { last = refl; districts = refl; records = refl; places = refl; depended = all-depended width (c .before .before .before .before .before .before .before .before .before .before .before .before .args .t1) (c .before .before .before .before .before .before .before .loop .depended) last (c .before .before .before .before .before .before .before .loop .inv .2) }) in
     let last : c .before .before .before .before .before .loop2 .i ≡ mostItems = omega (arith, c .before .before .before .before .before .loop2 .inv .1) in
     c .sound-places .ensures (c .before .before .before .before .before .before .before .before .before .before .before .before .args .t1) tables
     ∙ rw (

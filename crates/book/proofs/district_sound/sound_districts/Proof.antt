@@ -12,7 +12,7 @@ use Rattle.conditions.specs.Places.{places as width}
 use Rattle.book.specs.declared.Book.{Book}
 use Rattle.book.specs.Book.{mostDistricts}
 use Rattle.book.specs.Tables.{TablesOf}
-use Rattle.book.proofs.Needed.{district-in}
+use Rattle.book.proofs.Depended.{district-in}
 use Rattle.book.specs.SoundTest.{soundDistrict}
 use Rattle.book.proofs.district_sound.sound_districts.Statement.{statement}
 use Rattle.book.proofs.district_sound.sound_districts.Tie as tie

@@ -8,18 +8,18 @@ use Rattle.conditions.specs.Places.{places as width}
 use Rattle.book.specs.declared.Open.{Open}
 use Rattle.book.specs.Book.{withOpen}
 use Rattle.book.specs.Forget.{forget}
-use Rattle.book.proofs.Needed.{NeededBy, none-needed, needed-more, all-needed}
+use Rattle.book.proofs.Depended.{DependedBy, none-depended, depended-more, all-depended}
 use Rattle.book.proofs.forget.forget.Statement.{statement}
 use Rattle.book.proofs.forget.forget.Tie as tie
 
 abbrev Inv-loop : tie.InvT-loop
-Inv-loop b count needed₀ i₀ needed i = (i ≤ count) × NeededBy width b i needed
+Inv-loop b count depended₀ i₀ depended i = (i ≤ count) × DependedBy width b i depended
 
 abbrev μ-loop : tie.MeasureT-loop
-μ-loop b count needed₀ i₀ needed i = count - i
+μ-loop b count depended₀ i₀ depended i = count - i
 
 loop-holds : tie.Need-loop-holds Inv-loop μ-loop
-loop-holds c = (omega arith, none-needed width (c .args .t1))
+loop-holds c = (omega arith, none-depended width (c .args .t1))
 
 mul-x : tie.Need-mul-x Inv-loop μ-loop
 mul-x c = record { fits = omega (arith, c .before .before .pre .1) }
@@ -37,7 +37,7 @@ loop-less : tie.Need-loop-less Inv-loop μ-loop
 loop-less c = omega arith
 
 loop-again : tie.Need-loop-again Inv-loop μ-loop
-loop-again c = (omega arith, needed-more width (c .before .before .before .before .args .t1) (c .before .before .before .loop .i) (c .before .before .before .loop .depended) (c .before .before .before .loop .inv .1) (c .places-of .ensures))
+loop-again c = (omega arith, depended-more width (c .before .before .before .before .args .t1) (c .before .before .before .loop .i) (c .before .before .before .loop .depended) (c .before .before .before .loop .inv .1) (c .places-of .ensures))
 
 remembered-places-requires : tie.Need-remembered-places-requires Inv-loop μ-loop
 remembered-places-requires c κs = c .before .before .before .before .before .pre .0
@@ -46,8 +46,8 @@ returns : tie.Need-returns Inv-loop μ-loop
 unfolding forget
 returns c =
     let last : c .before .before .before .before .before .loop .i ≡ c .before .before .before .before .before .before .args .t1 .count = omega (arith, c .before .before .before .before .before .loop .inv .0) in
-    let needed = all-needed width (c .before .before .before .before .before .before .args .t1) (c .before .before .before .before .before .loop .depended) last (c .before .before .before .before .before .loop .inv .1) in
-    ap (λ (l : List Open). withOpen (c .before .before .before .before .before .before .args .t1) l) (c .remembered-places .ensures (c .before .before .before .before .before .before .args .t1) (record { last = refl; districts = refl; records = refl; places = refl; depended = needed }))
+    let depended = all-depended width (c .before .before .before .before .before .before .args .t1) (c .before .before .before .before .before .loop .depended) last (c .before .before .before .before .before .loop .inv .1) in
+    ap (λ (l : List Open). withOpen (c .before .before .before .before .before .before .args .t1) l) (c .remembered-places .ensures (c .before .before .before .before .before .before .args .t1) (record { last = refl; districts = refl; records = refl; places = refl; depended = depended }))
 
 pub forget-spec : {M : Type 1} → statement M
 forget-spec =

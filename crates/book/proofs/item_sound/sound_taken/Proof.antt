@@ -7,7 +7,7 @@ use lib.Dec.{leb}
 use borrow.Author.Tests.{not-true, not-false}
 use Rattle.conditions.specs.Places.{places}
 use Rattle.polyvalues.specs.Polyvalues.{mostPairs}
-use Rattle.book.proofs.Needed.{set-member}
+use Rattle.book.proofs.Depended.{set-member}
 use Rattle.book.proofs.Testing.{place-in}
 use Rattle.book.proofs.item_sound.sound_taken.Statement.{statement}
 use Rattle.book.proofs.item_sound.sound_taken.Tie as tie

@@ -2,7 +2,7 @@
 use borrow.Author.Needs.{needs}
 use mathlib.Core.Path.{sym, _∙_}
 use mathlib.Core.Bool.{false≢true}
-use Rattle.book.proofs.Needed.{certain-free}
+use Rattle.book.proofs.Depended.{certain-free}
 use Rattle.book.proofs.tables.is_certain.Statement.{statement}
 use Rattle.book.proofs.tables.is_certain.Tie as tie
 

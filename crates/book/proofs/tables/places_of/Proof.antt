@@ -2,7 +2,7 @@
 use borrow.Author.Needs.{needs}
 use Rattle.conditions.specs.Places.{places as width}
 use Rattle.book.specs.Book.{itemDepends}
-use Rattle.book.proofs.Needed.{none-in-set, either-set}
+use Rattle.book.proofs.Depended.{none-in-set, either-set}
 use Rattle.book.proofs.tables.places_of.Statement.{statement}
 use Rattle.book.proofs.tables.places_of.Tie as tie
 

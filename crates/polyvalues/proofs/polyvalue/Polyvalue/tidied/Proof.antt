@@ -10,8 +10,8 @@ use borrow.Author.Needs.{needs}
 use Rattle.conditions.specs.Conditions.{ofNumber}
 use Rattle.polyvalues.specs.declared.polyvalue.Pair.{Pair}
 use Rattle.polyvalues.specs.Pairs.{noPair}
-use Rattle.polyvalues.specs.Polyvalues.{mostPairs, paired, rowsOf}
-use Rattle.polyvalues.proofs.Laws.Paired.{AllRows, paired-set}
+use Rattle.polyvalues.specs.Polyvalues.{mostPairs, paired, rowsOf, AllRows}
+use Rattle.polyvalues.proofs.Laws.Paired.{paired-set}
 use Rattle.polyvalues.proofs.Known.{Held, all-rows, held-long}
 use Rattle.polyvalues.proofs.Inserting.{zeros-none, zeros-more, zeros-all}
 use Rattle.polyvalues.proofs.polyvalue.Polyvalue.tidied.Statement.{statement}

@@ -80,23 +80,23 @@ set-member w x q e = ap (λ (n : ℕ). member n q) e ∙ pick (decLt q w)
 -- ---- item after item
 
 -- s has the places that an item before i depends on
-abbrev pub NeededBy : ℕ → Book → ℕ → ℕ → Type 0
-NeededBy w b i s = (q : ℕ) → q < w → member s q ≡ any i (λ j. itemDepends w (itemAt b j) q)
+abbrev pub DependedBy : ℕ → Book → ℕ → ℕ → Type 0
+DependedBy w b i s = (q : ℕ) → q < w → member s q ≡ any i (λ j. itemDepends w (itemAt b j) q)
 
-pub none-needed : (w : ℕ) (b : Book) → NeededBy w b 0 0
+pub none-depended : (w : ℕ) (b : Book) → DependedBy w b 0 0
 unfolding any
-none-needed w b q h = member-none q
+none-depended w b q h = member-none q
 
-pub needed-more : (w : ℕ) (b : Book) (i s : ℕ) {t : ℕ} → NeededBy w b i s → t ≡ setOf w (itemDepends w (itemAt b i)) → NeededBy w b (i + 1) (bitOr s t)
+pub depended-more : (w : ℕ) (b : Book) (i s : ℕ) {t : ℕ} → DependedBy w b i s → t ≡ setOf w (itemDepends w (itemAt b i)) → DependedBy w b (i + 1) (bitOr s t)
 unfolding any
-needed-more w b i s {t} e f q h =
+depended-more w b i s {t} e f q h =
     rw add-one
     (member-or s t q
     ∙ ap₂ _||_ (e q h) (ap (λ (n : ℕ). member n q) f ∙ member-setOf w (itemDepends w (itemAt b i)) q h))
 
-pub all-needed : (w : ℕ) (b : Book) (s : ℕ) {i : ℕ} → i ≡ b .count → NeededBy w b i s → (q : ℕ) → q < w → member s q ≡ someDepends w b q
+pub all-depended : (w : ℕ) (b : Book) (s : ℕ) {i : ℕ} → i ≡ b .count → DependedBy w b i s → (q : ℕ) → q < w → member s q ≡ someDepends w b q
 unfolding someDepends
-all-needed w b s last e = rw last at e
+all-depended w b s last e = rw last at e
 
 -- ---- the tables of a book
 
