@@ -74,7 +74,7 @@ pub fn hex(word: Word, digits: usize) -> Result<u16, String> {
             return Ok(number);
         }
     }
-    Err(format!("{digits} hex digits are wanted, not {word}"))
+    Err(format!("{digits} hex digits together are wanted, not `{word}`"))
 }
 
 fn joined(words: &[Word]) -> String {

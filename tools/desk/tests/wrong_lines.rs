@@ -80,9 +80,9 @@ fn steps_that_are_not_in_the_grammar() {
         "begin ; add 1 to bikes",
         "a step is missing before or after ;",
     );
-    ninth("begin step 9 01 0000", "2 hex digits are wanted, not 9");
-    ninth("begin step 09 01 00", "4 hex digits are wanted, not 00");
-    ninth("begin step 09 +1 0000", "2 hex digits are wanted, not +1");
+    ninth("begin step 9 01 0000", "2 hex digits together are wanted, not `9`");
+    ninth("begin step 09 01 00", "4 hex digits together are wanted, not `00`");
+    ninth("begin step 09 +1 0000", "2 hex digits together are wanted, not `+1`");
 }
 
 #[test]
@@ -274,8 +274,8 @@ fn sheets_that_get_too_long() {
 
 #[test]
 fn bytes_lines() {
-    at(1, "bytes 02 A", "2 hex digits are wanted, not A");
-    at(2, "bytes 02\nbytes 0G", "2 hex digits are wanted, not 0G");
+    at(1, "bytes 02 A", "2 hex digits together are wanted, not `A`");
+    at(2, "bytes 02\nbytes 0G", "2 hex digits together are wanted, not `0G`");
     at(
         2,
         "bytes 02\nshow 0",
