@@ -13,8 +13,7 @@ use Rattle.polyvalues.specs.declared.polyvalue.Pair.{Pair}
 use Rattle.polyvalues.specs.declared.polyvalue.Polyvalue.{Polyvalue}
 use Rattle.polyvalues.specs.Pairs.{noPair, assignments, blank}
 use Rattle.polyvalues.specs.Values.{equal}
-use Rattle.polyvalues.specs.Polyvalues.{each, mostPairs, rowsOf, inUse, packed, AllRows}
-use Rattle.polyvalues.specs.Polyvalues.{sound as soundPolyvalue}
+use Rattle.polyvalues.specs.Polyvalues.{each, mostPairs, rowsOf, inUse, packed, AllRows, sound as soundPolyvalue}
 use Rattle.polyvalues.specs.Operations.{sameRows, same, together}
 use Rattle.polyvalues.proofs.Laws.Packed.{sound-well-formed}
 use Rattle.polyvalues.proofs.Laws.Paired.{rows-long}

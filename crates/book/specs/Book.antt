@@ -109,7 +109,7 @@ named n o = isOpen o && eqb (o .number .0) n
 unfoldable pub placeOf : ℕ → Book → ℕ → ℕ
 placeOf w b n = first w (λ q. named n (openAt b q))
 
--- the row of that transaction, and zeros where there is none
+-- the row of that transaction; where there is none, the row past the places, which holds zeros in a table of w rows
 abbrev pub openOf : ℕ → Book → ℕ → Open
 openOf w b n = openAt b (placeOf w b n)
 

@@ -16,9 +16,13 @@ decided o = not (eqb (o .decision) 0)
 unfoldable pub needed : ℕ → Book → ℕ → Open → Bool
 needed w b q o = someOn b (o .number .0) || someDepends w b q
 
+-- it stays open: it is not decided, or needed
+unfoldable pub kept : ℕ → Book → ℕ → Open → Bool
+kept w b q o = not (decided o) || needed w b q o
+
 -- its place after forgetting
 unfoldable pub remembered : ℕ → Book → ℕ → Open → Open
-remembered w b q o = let kept : Bool = needed w b q o in let closed : Open = cond kept o noOpen in cond (decided o) closed o
+remembered w b q o = cond (kept w b q o) o noOpen
 
 -- the book with each such place freed
 unfoldable pub forget : ℕ → Book → Book

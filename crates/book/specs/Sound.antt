@@ -3,8 +3,7 @@ use mathlib.Core.Path.{_≡_}
 use mathlib.Core.Bool.{true, false}
 use Prim.Native.Nat.{ℕ, _^_, _≤_, _<_}
 use Rattle.conditions.specs.Sets.{member}
-use Rattle.polyvalues.specs.Polyvalues.{mostPairs, inUse}
-use Rattle.polyvalues.specs.Polyvalues.{sound as soundPolyvalue}
+use Rattle.polyvalues.specs.Polyvalues.{mostPairs, inUse, sound as soundPolyvalue}
 use Rattle.polyvalues.specs.Operations.{together}
 use Rattle.book.specs.declared.Record.{Record}
 use Rattle.book.specs.declared.Item.{Item}

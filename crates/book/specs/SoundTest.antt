@@ -7,8 +7,7 @@ use Rattle.conditions.specs.Below.{all}
 use Rattle.conditions.specs.Conditions.{number}
 use Rattle.conditions.specs.Sets.{member}
 use Rattle.polyvalues.specs.declared.polyvalue.Polyvalue.{Polyvalue}
-use Rattle.polyvalues.specs.Polyvalues.{mostPairs, inUse}
-use Rattle.polyvalues.specs.Polyvalues.{sound as soundPolyvalue}
+use Rattle.polyvalues.specs.Polyvalues.{mostPairs, inUse, sound as soundPolyvalue}
 use Rattle.polyvalues.specs.Operations.{sameRows, together}
 use Rattle.polyvalues.specs.Values.{equal}
 use Rattle.book.specs.declared.Record.{Record}
@@ -16,7 +15,7 @@ use Rattle.book.specs.declared.Item.{Item}
 use Rattle.book.specs.declared.Open.{Open}
 use Rattle.book.specs.declared.Book.{Book}
 use Rattle.book.specs.Book.{mostDistricts, mostItems, lastNumber, noItem, recordAt, itemAt, openAt, idle, waiting, itemOn, isOpen, placeOf, itemDepends, someDepends}
-use Rattle.book.specs.Forget.{decided, needed}
+use Rattle.book.specs.Forget.{kept}
 
 -- a test that matters only where another holds
 abbrev pub implies : Bool → Bool → Bool
@@ -96,7 +95,7 @@ unfoldable pub soundOpen : ℕ → Book → ℕ → Open → Bool
 soundOpen w b q o =
     ltb (o .touched) (2 ^ b .districts) && ltb (o .ready) (2 ^ b .districts) && ltb (o .gave) (2 ^ b .districts) && leb (o .decision) 2
     && all q (λ p. not (eqb (openAt b p .number .0) (o .number .0))) && leb (o .number .0) (b .last .0)
-    && implies (decided o) (needed w b q o) && all (b .districts) (soundAt o)
+    && kept w b q o && all (b .districts) (soundAt o)
 
 -- place q
 unfoldable pub soundPlace : ℕ → Book → ℕ → Bool

@@ -5,8 +5,7 @@ ghost use Rattle.conditions.specs.Places.{places as Places·places};
 ghost use Rattle.book.specs.declared.Book.{Book};
 ghost use Rattle.book.specs.Book.{mostDistricts, mostItems};
 ghost use Rattle.book.specs.Rows.{rows};
-ghost use Rattle.book.specs.Forget.{decided, needed, remembered, forget};
-ghost use Rattle.book.specs.SoundTest.{implies};
+ghost use Rattle.book.specs.Forget.{kept, remembered, forget};
 ghost use Rattle.book.specs.Tables.{TablesOf};
 use crate::Book;
 use crate::Open;
@@ -21,7 +20,7 @@ use conditions::PLACES;
 // that depends on it.
 pub(crate) fn is_kept(t: Tables, q: usize, o: Open) -> bool
     requires { ⌜ (t .districts ≤ mostDistricts) × (q < Places·places) ⌝ }
-    ensures { λ r. ⌜ ((b : Book) → TablesOf Places·places b t → r ≡ implies (decided o) (needed Places·places b q o)) ⌝ }
+    ensures { λ r. ⌜ ((b : Book) → TablesOf Places·places b t → r ≡ kept Places·places b q o) ⌝ }
 {
     if o.decision == 0 {
         return true;

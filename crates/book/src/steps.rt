@@ -6,6 +6,7 @@ ghost use Rattle.book.specs.Begin.{badStep, inTable, outside};
 use crate::Step;
 use polyvalues::in_range;
 
+// The kinds of a step.
 pub(crate) const NEED: u8 = 1;
 
 pub(crate) const ADD: u8 = 2;

@@ -7,16 +7,20 @@ use lib.Dec.{eqb, ltb}
 use borrow.Author.Tests.{eqb-true, eqb-false, ltb-true, ltb-false}
 use Rattle.conditions.proofs.Laws.Below.{by-cases}
 use Rattle.conditions.specs.declared.place.TransactionNumber.{TransactionNumber}
+use Rattle.book.specs.declared.Answer.{Answer}
 use Rattle.book.specs.declared.Book.{Book}
 use Rattle.book.specs.declared.Open.{Open}
 use Rattle.book.specs.Book.{noOpen, recordAt, itemAt, openAt, isOpen, placeOf, someDepends, someOn, openOf}
-use Rattle.book.specs.Forget.{decided, needed, remembered, forget}
+use Rattle.book.specs.Answers.{accepted}
+use Rattle.book.specs.Transactions.{done}
+use Rattle.book.specs.Forget.{decided, needed, kept, remembered, forget}
 use Rattle.book.specs.Sound.{Sound}
 use Rattle.book.proofs.Laws.Rows.{getD-rows}
-use Rattle.book.specs.Shaped.{Shaped, Whole}
+use Rattle.book.specs.Shaped.{Whole}
 use Rattle.book.proofs.Laws.Sound.{place-named}
-use Rattle.book.proofs.Laws.But.{SoundBut, place-open}
+use Rattle.book.proofs.Laws.But.{place-open}
 use Rattle.book.proofs.Laws.Forgetting.{forget-open, forget-is-open}
+use Rattle.book.proofs.Laws.Calls.{WholeBut, forgotten, done-accepted}
 use Rattle.demands.specs.Calls.{Call}
 use Rattle.demands.specs.Past.{asksBegin}
 use Rattle.demands.specs.Demands.{rowWith, openAfter, Leaves}
@@ -25,25 +29,31 @@ use Rattle.demands.specs.Demands.{rowWith, openAfter, Leaves}
 
 -- the tables that c has from e, where c is e after forgetting
 pub record Left (w : ℕ) (e c : Book) : Type 0 where
+  pub whole : Whole w c
   pub last : c .last ≡ e .last
   pub districts : c .districts ≡ e .districts
   pub count : c .count ≡ e .count
   pub records : (d : ℕ) → recordAt c d ≡ recordAt e d
   pub opens : (q : ℕ) → q < w → isOpen (openAt c q) ≡ true → openAt c q ≡ openAt e q
-  pub stays : (q : ℕ) → q < w → isOpen (openAt e q) ≡ true → isOpen (openAt c q) ≡ (not (decided (openAt e q)) || needed w c q (openAt e q))
+  pub stays : (q : ℕ) → q < w → isOpen (openAt e q) ≡ true → isOpen (openAt c q) ≡ kept w c q (openAt e q)
   pub rows : (q : ℕ) → q < w → openAt c q ≡ remembered w c q (openAt e q)
 
-pub left : (w : ℕ) (e c : Book) → c ≡ forget w e → SoundBut w e → Shaped w e → Left w e c
-unfolding forget needed remembered someOn someDepends
-left w e c same s t = record {
+pub left : (w : ℕ) (e c : Book) → c ≡ forget w e → WholeBut w e → Left w e c
+unfolding forget kept needed remembered someOn someDepends
+left w e c same f = record {
+  whole = rw same (forgotten w e f);
   last = ap (λ (b : Book). b .last) same;
   districts = ap (λ (b : Book). b .districts) same;
   count = ap (λ (b : Book). b .count) same;
   records = λ d. ap (λ (b : Book). recordAt b d) same;
-  opens = λ q h k. let k′ : isOpen (openAt (forget w e) q) ≡ true = rw same at k in ap (λ (b : Book). openAt b q) same ∙ forget-open w e s t q h k′;
-  stays = λ q h k. rw same (forget-is-open w e s t q h k);
-  rows = λ q h. rw same (getD-rows (remembered w e) noOpen w (e .«open») q h (omega (arith, t .places)));
+  opens = λ q h k. let k′ : isOpen (openAt (forget w e) q) ≡ true = rw same at k in ap (λ (b : Book). openAt b q) same ∙ forget-open w e (f .but) (f .shaped) q h k′;
+  stays = λ q h k. rw same (forget-is-open w e (f .but) (f .shaped) q h k);
+  rows = λ q h. rw same (getD-rows (remembered w e) noOpen w (e .«open») q h (omega (arith, f .shaped .places)));
 }
+
+-- of a call that returns so
+pub done-left : (w : ℕ) (a : Answer) (after before : Book) → accepted a ≡ true → WholeBut w after → Left w after (done w a after before .book)
+done-left w a after before e = left w after _ (done-accepted w a after before e)
 
 -- ---- an accepted call on an open transaction
 
@@ -70,22 +80,22 @@ same-number w c q o r e = (rw e, rw e)
 acts-stays : (w : ℕ) (b e c : Book) (n : ℕ) (o : Open) → Left w e c → o .number ≡ openOf w b n .number
     → ((q : ℕ) → openAt e q ≡ cond (eqb q (placeOf w b n)) o (openAt b q))
     → (q : ℕ) → q < w → isOpen (openAt b q) ≡ true → isOpen (openAt c q) ≡ (not (decided (cond (eqb q (placeOf w b n)) o (openAt b q))) || needed w c q (openAt b q))
+unfolding kept
 acts-stays w b e c n o f number opens q h k =
     let row : Open = cond (eqb q (placeOf w b n)) o (openAt b q) in
     let its : row .number ≡ openAt b q .number = by-cases (eqb q (placeOf w b n)) (λ z. rw (z, eqb-true q (placeOf w b n) z) number) (λ z. rw z) in
     let same = same-number w c q row (openAt b q) its in
-    let kept : isOpen (openAt e q) ≡ true = rw (opens q) (same .0 ∙ k) in
-    let both = f .stays q h kept in
-    let gone : isOpen (openAt c q) ≡ (not (decided row) || needed w c q row) = rw (opens q) at both in
+    let stood : isOpen (openAt e q) ≡ true = rw (opens q) (same .0 ∙ k) in
+    let gone : isOpen (openAt c q) ≡ (not (decided row) || needed w c q row) = rw (opens q) at (f .stays q h stood) in
     gone ∙ ap (λ (y : Bool). not (decided row) || y) (same .1)
 
 -- an event that changes only records, items and the transaction's row, and then forgetting
-pub acts : (w : ℕ) (b e c : Book) (n : ℕ) (o : Open) → Sound w b → Whole w c → placeOf w b n < w → o .number ≡ openOf w b n .number
+pub acts : (w : ℕ) (b e c : Book) (n : ℕ) (o : Open) → Sound w b → placeOf w b n < w → o .number ≡ openOf w b n .number
     → Left w e c → e .last ≡ b .last → e .districts ≡ b .districts → e .count ≡ b .count
     → ((q : ℕ) → openAt e q ≡ cond (eqb q (placeOf w b n)) o (openAt b q)) → Acts w b c n o
-acts w b e c n o s v place number f last districts count opens = record {
+acts w b e c n o s place number f last districts count opens = record {
   before = s;
-  after = v;
+  after = f .whole;
   place = place;
   number = number;
   last = f .last ∙ last;

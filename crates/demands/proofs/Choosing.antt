@@ -22,18 +22,17 @@ use Rattle.book.specs.Items.{there}
 use Rattle.book.specs.Begin.{heldAt}
 use Rattle.book.specs.Ready.{ready}
 use Rattle.book.specs.GiveUp.{giveUp}
-use Rattle.book.specs.Decide.{complete, abort}
 use Rattle.book.specs.Hear.{outcome, hear}
 use Rattle.book.proofs.Laws.Sound.{place-named}
 use Rattle.book.specs.Shaped.{Shaped}
 use Rattle.book.proofs.Laws.But.{place-open, computing-on, busy-is}
-use Rattle.book.proofs.Laws.Events.{ready-keeps, complete-keeps, abort-keeps, give-up-values, hear-values}
+use Rattle.book.proofs.Laws.Events.{ready-keeps, give-up-values, hear-values}
 use Rattle.book.proofs.Laws.Calls.{GivesUp, Hears}
 use Rattle.demands.specs.Calls.{givesUp}
 use Rattle.demands.specs.Past.{Said, said, asksComplete, wasCompleted, wasAborted, Guess}
 use Rattle.demands.specs.Demands.{pendingAt, Says}
 use Rattle.demands.proofs.Tables.{give-up-facts, hear-facts, give-up-acts}
-use Rattle.demands.proofs.Items.{ready-on, complete-on, abort-on, give-up-on, busy-item, hear-on}
+use Rattle.demands.proofs.Items.{stays-on, ready-on, give-up-on, busy-item, hear-on}
 use Rattle.demands.proofs.Ledger.{ever-now, Ledger, row-marks}
 use Rattle.demands.proofs.Marking.{give-up-marked, hear-marks}
 
@@ -50,6 +49,10 @@ chosen-same b c g a i e f k = rw (e, f, k)
 chosen-kept : (b c : Book) (g : ℕ → Bool) (a i : ℕ) → itemOn c (itemAt c i) ≡ itemOn b (itemAt b i) → itemAt c i ≡ itemAt b i → chosenAt c g a i ≡ chosenAt b g a i
 chosen-kept b c g a i e f = chosen-same b c g a i e (ap (λ (x : Item). at (inUse (x .held)) a) f) (ap (λ (x : Item). at (inUse (x .pending)) a) f)
 
+-- the item as it was, where no record changed
+pub chosen-stays : (b c : Book) (g : ℕ → Bool) (a i : ℕ) → itemAt c i ≡ itemAt b i → ((d : ℕ) → recordAt c d ≡ recordAt b d) → chosenAt c g a i ≡ chosenAt b g a i
+chosen-stays b c g a i item records = chosen-kept b c g a i (stays-on b c i item records) item
+
 -- one value, on any
 pub chosen-one : (c : Book) (g : ℕ → Bool) (a i : ℕ) (v : ℤ) → heldAt c a i ≡ v → pendingAt c a i ≡ v → chosenAt c g a i ≡ v
 chosen-one c g a i v f k = rw (f, k) (by-cases (g (itemOn c (itemAt c i))) (λ e. rw e) (λ e. rw e))
@@ -60,12 +63,6 @@ module _ (w : ℕ) (b : Book) (t : Shaped w b) (g : ℕ → Bool) (a : ℕ) (s :
 
   pub ready-chosen : (n d : ℕ) → accepted (ready w b n d .answer) ≡ true → chosenAt (ready w b n d .book) g a i ≡ chosenAt b g a i
   ready-chosen n d e = chosen-kept b _ g a i (ready-on w b t i h n d e) (ready-keeps w b n d e i)
-
-  pub complete-chosen : (n : ℕ) → accepted (complete w b n .answer) ≡ true → chosenAt (complete w b n .book) g a i ≡ chosenAt b g a i
-  complete-chosen n e = chosen-kept b _ g a i (complete-on w b t i h n e) (complete-keeps w b n e i)
-
-  pub abort-chosen : (n : ℕ) → accepted (abort w b n .answer) ≡ true → chosenAt (abort w b n .book) g a i ≡ chosenAt b g a i
-  abort-chosen n e = chosen-kept b _ g a i (abort-on w b t i h n e) (abort-keeps w b n e i)
 
   -- the place of an open transaction is as guessed
   guessed : (n : ℕ) → placeOf w b n < w → member a (placeOf w b n) ≡ g n

@@ -23,8 +23,7 @@ use Rattle.book.proofs.Laws.OpenedShaped.{opened-whole}
 use Rattle.book.proofs.Laws.Room.{give-up-room, hear-room}
 use Rattle.book.specs.Shaped.{Whole}
 use Rattle.book.proofs.Laws.Calls.{ready-whole, give-up-whole, complete-whole, abort-whole, hear-whole, begin-whole}
-use Rattle.sheet.specs.Open.{openedSheet, openSheet}
-use Rattle.sheet.specs.Open.{refused as sheetRefused}
+use Rattle.sheet.specs.Open.{openedSheet, openSheet, refused as sheetRefused}
 use Rattle.demands.specs.Calls.{Call, beginsWith, readies, givesUp, completes, aborts, hears, shows, answerTo, bookAfter}
 use Rattle.demands.specs.Demands.{orderOf, testsOf, firstNumber, Demand1, OneResult}
 use Rattle.demands.proofs.Invariant.{refused-book}

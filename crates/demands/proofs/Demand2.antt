@@ -15,7 +15,7 @@ use Rattle.book.specs.declared.Open.{Open}
 use Rattle.book.specs.Answers.{accepted}
 use Rattle.book.specs.Book.{recordAt, itemAt, openAt, isOpen, placeOf, someDepends, someOn, openOf}
 use Rattle.book.specs.Records.{computingOn}
-use Rattle.book.specs.Forget.{decided, needed}
+use Rattle.book.specs.Forget.{decided, needed, kept}
 use Rattle.book.specs.Ready.{reported}
 use Rattle.book.specs.GiveUp.{marked}
 use Rattle.book.specs.Begin.{heldAt}
@@ -49,7 +49,7 @@ row-decides w b c n o act e q h k =
 
 forgets : (w : ℕ) (c : Call) (b : Book) → Shaped w b → accepted (answerTo w b c) ≡ true → (q : ℕ) → q < w → isOpen (openAt b q) ≡ true
     → isOpen (openAt (bookAfter w b c) q) ≡ (not (isDecided b c q) || (someOn (bookAfter w b c) (openAt b q .number .0) || someDepends w (bookAfter w b c) q))
-unfolding needed
+unfolding kept needed
 forgets w (beginsWith bytes) b t e q h k = begin-stays w b t bytes e q h k ∙ rw (or-false (decided (openAt b q)))
 forgets w (readies n d) b t e q h k = let act = ready-acts w b t n d e in act .stays q h k ∙ rw (row-decided w b n (reported d (openOf w b n)) q refl)
 forgets w (givesUp n d) b t e q h k =

@@ -19,17 +19,18 @@ use Rattle.book.specs.Decide.{completeAnswer, abortAnswer, decide, complete, ab
 use Rattle.book.specs.Hear.{hearAnswer, heard, hear}
 use Rattle.book.specs.Shaped.{Shaped, Whole}
 use Rattle.book.proofs.Laws.BeginSound.{free-place}
+use Rattle.book.proofs.Laws.Events.{complete-keeps, abort-keeps}
 use Rattle.book.proofs.Laws.Calls.{done-refused, begin-refused}
 use Rattle.demands.specs.Calls.{Call, beginsWith, readies, givesUp, completes, aborts, hears, shows, answerTo, bookAfter}
 use Rattle.demands.specs.Past.{Said, said, asksBegin, asksComplete, wasCompleted, wasGivenUp, began, Guess, runs, serial}
 use Rattle.demands.specs.Demands.{Says}
 use Rattle.demands.proofs.Acts.{Acts}
-use Rattle.demands.proofs.Tables.{ready-acts, give-up-acts, complete-acts, abort-acts, hear-acts, begin-facts, begin-after, begin-number, begin-count, begin-places}
+use Rattle.demands.proofs.Tables.{ready-acts, give-up-acts, complete-acts, complete-record, abort-acts, abort-record, hear-acts, begin-facts, begin-after, begin-number, begin-count, begin-places}
 use Rattle.demands.proofs.Assignments.{held-agree, pending-agree, saying-both}
 use Rattle.demands.proofs.Ledger.{ever-not, Same, refused-same, silent-same, Ledger, quiet-ledger}
 use Rattle.demands.proofs.Marking.{ready-ledger, give-up-ledger, complete-ledger, complete-kept, abort-ledger, hear-ledger, begin-ledger}
 use Rattle.demands.proofs.Guesses.{guess-before}
-use Rattle.demands.proofs.Choosing.{chosenAt, ready-chosen, complete-chosen, abort-chosen, give-up-chosen, hear-chosen}
+use Rattle.demands.proofs.Choosing.{chosenAt, chosen-stays, ready-chosen, give-up-chosen, hear-chosen}
 use Rattle.demands.proofs.Beginning.{begin-chosen}
 
 -- ---- "A refused call leaves the book .. as [it was] before it."
@@ -162,11 +163,11 @@ module _ (w : ℕ) (s₀ : ℕ → ℤ) (b : Book) (past : List Said) (v : Inv w
       (λ m k c. by-cases (eqb n m)
       (λ z. absurd (complete-kept w b t past (v .ledger) n e (ap (wasGivenUp past) (eqb-true n m z) ∙ k)))
       (λ z. ever-not past (said w b (completes n)) (asksComplete m) (rw z (and-false (accepted (answerTo w b (completes n))))) ∙ c))
-      (λ g before legal a says i h. complete-chosen w b t g a says i h n e)
+      (λ g before legal a says i h. chosen-stays b _ g a i (complete-keeps w b n e i) (complete-record w b t n e))
   accepted-inv (aborts n) e =
       let t = v .whole .shaped in
       acts-inv _ n _ (said w b (aborts n)) (abort-acts w b t n e) refl (abort-ledger w b t past (v .ledger) n e) (notLate (said w b (aborts n)) (λ m. refl))
-      (λ g before legal a says i h. abort-chosen w b t g a says i h n e)
+      (λ g before legal a says i h. chosen-stays b _ g a i (abort-keeps w b n e i) (abort-record w b t n e))
   accepted-inv (hears n d) e =
       let t = v .whole .shaped in
       acts-inv _ n _ (said w b (hears n d)) (hear-acts w b t n d e) refl (hear-ledger w b t past (v .ledger) n d e) (notLate (said w b (hears n d)) (λ m. refl))

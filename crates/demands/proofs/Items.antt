@@ -17,14 +17,18 @@ use Rattle.book.specs.Transactions.{done}
 use Rattle.book.specs.Begin.{touchesDistrict, beginItem, begun, begin}
 use Rattle.book.specs.Ready.{ready}
 use Rattle.book.specs.GiveUp.{giveUpAnswer, giveUpItem, gaveUp, giveUp}
-use Rattle.book.specs.Decide.{complete, abort}
 use Rattle.book.specs.Hear.{outcome, hearAnswer, hearItem, heard, hear}
 use Rattle.book.specs.Shaped.{Shaped}
 use Rattle.book.proofs.Laws.Values.{forget-item, begin-item, give-up-item, hear-item}
-use Rattle.book.proofs.Laws.Events.{ready-keeps, complete-keeps, abort-keeps}
+use Rattle.book.proofs.Laws.Events.{ready-keeps}
 use Rattle.book.proofs.Laws.But.{computing-on, busy-is, busy-on}
 use Rattle.book.proofs.Laws.Calls.{done-accepted, begin-accepted}
-use Rattle.demands.proofs.Tables.{ready-facts, ready-record, give-up-facts, give-up-record, complete-record, abort-record, hear-facts, hear-record, begin-facts, begin-record}
+use Rattle.demands.proofs.Tables.{ready-facts, ready-record, give-up-facts, give-up-record, hear-facts, hear-record, begin-facts, begin-record}
+
+-- an item stays on its transaction where it stays and no record changes: complete and abort
+pub stays-on : (b c : Book) (i : ℕ) → itemAt c i ≡ itemAt b i → ((d : ℕ) → recordAt c d ≡ recordAt b d) → itemOn c (itemAt c i) ≡ itemOn b (itemAt b i)
+unfolding itemOn
+stays-on b c i item records = rw (item, records (itemAt b i .district))
 
 module _ (w : ℕ) (b : Book) (t : Shaped w b) (i : ℕ) (h : i < b .count) where
   abbrev x : Item
@@ -40,16 +44,6 @@ module _ (w : ℕ) (b : Book) (t : Shaped w b) (i : ℕ) (h : i < b .count) wher
     where
       busy : eqb (recordAt b d .phase) 0 ≡ false
       busy = ap (λ (m : ℕ). eqb m 0) (computing-on n (recordAt b d) (ready-facts w b t n d e .last) .0)
-
-  -- ---- decide
-
-  pub complete-on : (n : ℕ) → accepted (complete w b n .answer) ≡ true → itemOn (complete w b n .book) (itemAt (complete w b n .book) i) ≡ itemOn b (itemAt b i)
-  unfolding itemOn
-  complete-on n e = rw (complete-keeps w b n e i, complete-record w b t n e (x .district))
-
-  pub abort-on : (n : ℕ) → accepted (abort w b n .answer) ≡ true → itemOn (abort w b n .book) (itemAt (abort w b n .book) i) ≡ itemOn b (itemAt b i)
-  unfolding itemOn
-  abort-on n e = rw (abort-keeps w b n e i, abort-record w b t n e (x .district))
 
   -- ---- give up
 

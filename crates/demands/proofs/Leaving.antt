@@ -29,7 +29,7 @@ pub show-left : (w : ℕ) (b : Book) → Shaped w b → (i : ℕ) (buf : List �
 unfolding showAnswer
 show-left w b t i buf e =
     let s : Sound w b = test-sound w b (not-false _ (test-false _ _ _ refl e)) in
-    left w b b (sym (forget-sound w b s)) (sound-but w b s) t
+    left w b b (sym (forget-sound w b s)) (record { but = sound-but w b s; shaped = t })
 
 pub leaves : (w : ℕ) (c : Call) (b : Book) → Shaped w b → accepted (answerTo w b c) ≡ true → Leaves w c b (bookAfter w b c)
 leaves w (beginsWith bytes) b t e = record {

@@ -16,7 +16,7 @@ use Rattle.book.specs.Answers.{firstOf}
 use Rattle.book.specs.Rows.{rowsFrom}
 use Rattle.book.specs.Book.{noItem, noBook, recordOn, itemOn, placeOf, freePlace, itemDepends, someDepends, someOn}
 use Rattle.book.specs.Programs.{steps, declines, after, afterAll, declinedFrom, run, names, touches}
-use Rattle.book.specs.Forget.{needed, remembered, forget}
+use Rattle.book.specs.Forget.{needed, kept, remembered, forget}
 use Rattle.book.specs.SoundTest.{samePolyvalue, sameItem, zeroRecord, zeroOpen, soundBusy, soundRecord, soundDistrict, soundPending, soundRow, soundItem, soundAt, soundOpen, soundPlace, sound}
 use Rattle.book.specs.Records.{computingOn, waitingOn, busyOn, hearRecord}
 use Rattle.book.specs.Items.{concerned, split, reduceItem}
@@ -32,5 +32,5 @@ use Rattle.book.specs.Show.{heldLine}
 use Rattle.demands.specs.Demands.{Lines}
 
 pub lines : Lines
-unfolding all any first odd member setOf withPlace full union intersection complement empty completed selected reduced dependsOn inRange signed ofBytes depends certain wellFormed inUse tidy packed soundPolyvalue insert join simplifiedFrom simplified tableBelow canonOver canon reduce select different together firstOf rowsFrom noItem noBook recordOn itemOn placeOf freePlace itemDepends someDepends someOn steps declines after afterAll declinedFrom run names touches needed remembered forget samePolyvalue sameItem zeroRecord zeroOpen soundBusy soundRecord soundDistrict soundPending soundRow soundItem soundAt soundOpen soundPlace sound computingOn waitingOn busyOn hearRecord concerned split reduceItem done goodOpening openedItem openedBook opened badStep badProgram outside results grant someBusy tooMany beginAnswer touchesDistrict beginItem begun begin readyAnswer readied ready giveUpAnswer giveUpItem gaveUp giveUp someNotReady completeAnswer decide complete hearAnswer hearItem heard hear bookOf leftOpen unsure twice told those tagAt allows within dropped tagNeeded prime primes digits decimal prefixed joined tagText tagsText productText conditionText valueText pairText lineText heldLine
+unfolding all any first odd member setOf withPlace full union intersection complement empty completed selected reduced dependsOn inRange signed ofBytes depends certain wellFormed inUse tidy packed soundPolyvalue insert join simplifiedFrom simplified tableBelow canonOver canon reduce select different together firstOf rowsFrom noItem noBook recordOn itemOn placeOf freePlace itemDepends someDepends someOn steps declines after afterAll declinedFrom run names touches needed kept remembered forget samePolyvalue sameItem zeroRecord zeroOpen soundBusy soundRecord soundDistrict soundPending soundRow soundItem soundAt soundOpen soundPlace sound computingOn waitingOn busyOn hearRecord concerned split reduceItem done goodOpening openedItem openedBook opened badStep badProgram outside results grant someBusy tooMany beginAnswer touchesDistrict beginItem begun begin readyAnswer readied ready giveUpAnswer giveUpItem gaveUp giveUp someNotReady completeAnswer decide complete hearAnswer hearItem heard hear bookOf leftOpen unsure twice told those tagAt allows within dropped tagNeeded prime primes digits decimal prefixed joined tagText tagsText productText conditionText valueText pairText lineText heldLine
 lines = record { eight = refl; nine = refl }

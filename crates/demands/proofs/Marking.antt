@@ -26,8 +26,8 @@ use Rattle.book.specs.Shaped.{Shaped}
 use Rattle.book.proofs.Laws.Including.{including-own, member-including}
 use Rattle.book.proofs.Laws.But.{place-open, computing-on, busy-is}
 use Rattle.book.proofs.Laws.Calls.{GivesUp}
-use Rattle.demands.specs.Calls.{Call, beginsWith, readies, givesUp, completes, aborts, hears}
-use Rattle.demands.specs.Past.{Said, said, wasReady, givesUpEarly, wasGivenUp, began}
+use Rattle.demands.specs.Calls.{Call, beginsWith, readies, givesUp, completes, aborts, hears, answerTo}
+use Rattle.demands.specs.Past.{Said, said, asksReady, asksComplete, asksAbort, wasReady, givesUpEarly, wasGivenUp, began}
 use Rattle.demands.specs.Demands.{newRow}
 use Rattle.demands.proofs.Tables.{ready-facts, ready-acts, give-up-facts, give-up-acts, complete-facts, complete-acts, abort-facts, abort-acts, hear-acts, begin-last, begin-districts, begin-places}
 use Rattle.demands.proofs.Ledger.{given-up-now, silent-same, Same, Marks, Turns, same-marks, same-unmarked, Ledger, row-marks, acts-ledger}
@@ -44,6 +44,19 @@ module _ (w : ℕ) (b : Book) (t : Shaped w b) (past : List Said) (l : Ledger w 
   -- the past after a call
   abbrev now : Call → List Said
   now c = said w b c ∷ past
+
+  -- a call that says nothing of a district leaves the sets, and decides at most
+  setsStay : (c : Call) (n v : ℕ) → accepted (answerTo w b c) ≡ true → ((d : ℕ) → asksReady n d c ≡ false) → givesUpEarly past n c ≡ false
+      → (asksComplete n c || eqb (openOf w b n .decision) 1) ≡ eqb v 1 → (asksAbort n c || eqb (openOf w b n .decision) 2) ≡ eqb v 2
+      → Turns past (said w b c) (b .districts) n (openOf w b n) (withDecision v (openOf w b n))
+  setsStay c n v e silent late completed aborted = record {
+    answered = e;
+    completed = completed;
+    aborted = aborted;
+    ready = λ d h. rw (silent d);
+    gives = λ k. absurd (false≢true (sym late ∙ k));
+    gave = λ d h k. k;
+  }
 
   -- ---- ready
 
@@ -108,14 +121,7 @@ module _ (w : ℕ) (b : Book) (t : Shaped w b) (past : List Said) (l : Ledger w 
         few f h = omega (arith, facts .sound .fewDistricts)
 
     turnsLate : computingOn n (recordAt b d) ≡ false → Turns past (said w b (givesUp n d)) (b .districts) n o o
-    turnsLate z = record {
-      answered = e;
-      completed = refl;
-      aborted = refl;
-      ready = λ f h. refl;
-      gives = λ k. absurd (false≢true (sym (early ∙ z) ∙ k));
-      gave = λ f h k. k;
-    }
+    turnsLate z = setsStay (givesUp n d) n (o .decision) e (λ f. refl) (early ∙ z) refl refl
 
     giveUpTurns : Turns past (said w b (givesUp n d)) (b .districts) n o (cond (computingOn n (recordAt b d)) (marked d o) o)
     giveUpTurns = by-cases (computingOn n (recordAt b d)) (λ k. rw k turnsEarly) (λ k. rw k (turnsLate k))
@@ -127,14 +133,9 @@ module _ (w : ℕ) (b : Book) (t : Shaped w b) (past : List Said) (l : Ledger w 
 
   module _ (n : ℕ) (e : accepted (complete w b n .answer) ≡ true) where
     completeTurns : Turns past (said w b (completes n)) (b .districts) n (openOf w b n) (withDecision 1 (openOf w b n))
-    completeTurns = record {
-      answered = e;
-      completed = rw (eq-eqb n n refl);
-      aborted = ap (λ (v : ℕ). eqb v 2) (undecided (openOf w b n) (complete-facts w b t n e .undecided));
-      ready = λ f h. refl;
-      gives = λ k. absurd (false≢true k);
-      gave = λ f h k. k;
-    }
+    completeTurns =
+        setsStay (completes n) n 1 e (λ d. refl) refl (rw (eq-eqb n n refl))
+        (ap (λ (v : ℕ). eqb v 2) (undecided (openOf w b n) (complete-facts w b t n e .undecided)))
 
     pub complete-ledger : Ledger w (complete w b n .book) (now (completes n))
     complete-ledger = acts-ledger w b _ past l n _ (complete-acts w b t n e) (said w b (completes n)) (λ m apart. ne-eqb n m apart) refl completeTurns
@@ -146,21 +147,15 @@ module _ (w : ℕ) (b : Book) (t : Shaped w b) (past : List Said) (l : Ledger w 
         let q = placeOf w b n in
         let f = complete-facts w b t n e in
         let opened = place-open w b n (f .place) in
-        let ready = f .ready (gave .0) (gave .1) (f .sound .gaveTouched q (f .place) opened (gave .0) (gave .1) (gave .2)) in
+        let ready = f .ready refl (gave .0) (gave .1) (f .sound .gaveTouched q (f .place) opened (gave .0) (gave .1) (gave .2)) in
         true≢false (sym (gave .2) ∙ f .sound .apart q (f .place) opened (gave .0) (gave .1) ready)
 
   -- ---- abort
 
   module _ (n : ℕ) (e : accepted (abort w b n .answer) ≡ true) where
     abortTurns : Turns past (said w b (aborts n)) (b .districts) n (openOf w b n) (withDecision 2 (openOf w b n))
-    abortTurns = record {
-      answered = e;
-      completed = ap (λ (v : ℕ). eqb v 1) (undecided (openOf w b n) (abort-facts w b t n e .undecided));
-      aborted = rw (eq-eqb n n refl);
-      ready = λ f h. refl;
-      gives = λ k. absurd (false≢true k);
-      gave = λ f h k. k;
-    }
+    abortTurns =
+        setsStay (aborts n) n 2 e (λ d. refl) refl (ap (λ (v : ℕ). eqb v 1) (undecided (openOf w b n) (abort-facts w b t n e .undecided))) (rw (eq-eqb n n refl))
 
     pub abort-ledger : Ledger w (abort w b n .book) (now (aborts n))
     abort-ledger = acts-ledger w b _ past l n _ (abort-acts w b t n e) (said w b (aborts n)) (λ m apart. ne-eqb n m apart) refl abortTurns
@@ -171,18 +166,10 @@ module _ (w : ℕ) (b : Book) (t : Shaped w b) (past : List Said) (l : Ledger w 
     pub hear-marks : Marks past (b .districts) n (openOf w b n)
     hear-marks = row-marks w b _ past l n _ (hear-acts w b t n d e)
 
-    hearTurns : Turns past (said w b (hears n d)) (b .districts) n (openOf w b n) (openOf w b n)
-    hearTurns = record {
-      answered = e;
-      completed = refl;
-      aborted = refl;
-      ready = λ f h. refl;
-      gives = λ k. absurd (false≢true k);
-      gave = λ f h k. k;
-    }
-
     pub hear-ledger : Ledger w (hear w b n d .book) (now (hears n d))
-    hear-ledger = acts-ledger w b _ past l n _ (hear-acts w b t n d e) (said w b (hears n d)) (λ m apart. refl) refl hearTurns
+    hear-ledger =
+        acts-ledger w b _ past l n _ (hear-acts w b t n d e) (said w b (hears n d)) (λ m apart. refl) refl
+        (setsStay (hears n d) n (openOf w b n .decision) e (λ f. refl) refl refl refl)
 
   -- ---- begin: the number is new, and nothing is said of it
 

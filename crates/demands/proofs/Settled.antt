@@ -9,14 +9,13 @@ use borrow.Author.Tests.{ltb-true, ltb-false}
 use Rattle.conditions.proofs.Laws.Below.{by-cases}
 use Rattle.polyvalues.specs.declared.polyvalue.Polyvalue.{Polyvalue}
 use Rattle.polyvalues.specs.Pairs.{at}
-use Rattle.polyvalues.specs.Polyvalues.{inUse, packed, AllRows}
-use Rattle.polyvalues.specs.Polyvalues.{sound as soundPolyvalue}
+use Rattle.polyvalues.specs.Polyvalues.{inUse, packed, AllRows, sound as soundPolyvalue}
 use Rattle.polyvalues.proofs.Laws.Canon.{unique}
 use Rattle.polyvalues.proofs.Laws.Packed.{sound-well-formed, sound-packed}
 use Rattle.book.specs.declared.Book.{Book}
 use Rattle.book.specs.declared.Open.{Open}
 use Rattle.book.specs.Book.{mostDistricts, mostItems, noRecord, voidItem, noOpen, recordAt, itemAt, someDepends, someOn}
-use Rattle.book.specs.Forget.{needed, remembered}
+use Rattle.book.specs.Forget.{needed, kept, remembered}
 use Rattle.book.specs.Begin.{heldAt}
 use Rattle.book.specs.Shaped.{Whole}
 use Rattle.demands.specs.Calls.{Call}
@@ -64,7 +63,7 @@ module _ (w : ℕ) (c : Call) (b x y : Book) (u : Whole w x) (v : Whole w y) (l 
       u .sound .pastItems i inside (omega (arith, past, l .count)) ∙ sym (v .sound .pastItems i inside (omega (arith, past, m .count)))))
 
   remembers : (q : ℕ) (o : Open) → remembered w x q o ≡ remembered w y q o
-  unfolding remembered needed someOn someDepends
+  unfolding remembered kept needed someOn someDepends
   remembers q o = λ k. remembered w (record { last = x .last; districts = districts k; records = records k; count = count k; items = items k; «open» = x .«open» }) q o
 
   places : x .«open» ≡ y .«open»

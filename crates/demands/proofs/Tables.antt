@@ -1,19 +1,19 @@
 -- For each call, what an accepted one makes of the districts' records and of the places.
 use mathlib.Core.Path.{_≡_, refl, sym, _∙_, ap}
-use mathlib.Core.Bool.{true, not, _||_, cond, true≢false}
+use mathlib.Core.Bool.{true, cond, true≢false}
 use mathlib.Core.List.{List}
 use Prim.Native.Nat.{ℕ, suc, _<_}
-use native.Mathlib.Omega.{arith}
 use lib.Dec.{eqb}
 use borrow.Author.Tests.{eqb-true}
 use Rattle.conditions.proofs.Laws.Below.{by-cases}
+use Rattle.book.specs.declared.Answer.{Answer}
 use Rattle.book.specs.declared.Book.{Book}
 use Rattle.conditions.specs.declared.place.TransactionNumber.{TransactionNumber}
 use Rattle.book.specs.Answers.{accepted}
 use Rattle.book.specs.Book.{noRecord, recordAt, openAt, isOpen, placeOf, freePlace, openOf}
 use Rattle.book.specs.Programs.{steps}
 use Rattle.book.specs.Records.{computingOn, beginRecord, readyRecord, hearRecord}
-use Rattle.book.specs.Forget.{decided, needed, remembered}
+use Rattle.book.specs.Forget.{kept, remembered}
 use Rattle.book.specs.Transactions.{done}
 use Rattle.book.specs.Sound.{Sound}
 use Rattle.book.specs.Begin.{grant, touchesDistrict, begun, begin}
@@ -23,15 +23,15 @@ use Rattle.book.specs.Decide.{completeAnswer, abortAnswer, withDecision, decide
 use Rattle.book.specs.Hear.{hearAnswer, heard, hear}
 use Rattle.book.specs.Shaped.{Shaped, Whole}
 use Rattle.book.proofs.Laws.But.{sound-but}
-use Rattle.book.proofs.Laws.ReadySound.{ready-shaped, ready-records, ready-opens, ready-but}
-use Rattle.book.proofs.Laws.GiveUpSound.{give-up-shaped, give-up-records, give-up-opens, give-up-but}
-use Rattle.book.proofs.Laws.DecideSound.{decide-shaped, decide-opens, decide-but}
-use Rattle.book.proofs.Laws.HearSound.{hear-shaped, hear-records, hear-but}
-use Rattle.book.proofs.Laws.BeginSound.{Begins, begin-shaped, begin-records, begin-opens, free-place, begin-but}
-use Rattle.book.proofs.Laws.Calls.{Readies, GivesUp, Completes, Aborts, Hears, done-accepted, begin-accepted, ready-tests, give-up-tests, complete-tests, abort-tests, hear-tests, begin-tests, ready-whole, give-up-whole, complete-whole, abort-whole, hear-whole, begin-whole}
+use Rattle.book.proofs.Laws.ReadySound.{ready-records, ready-opens}
+use Rattle.book.proofs.Laws.GiveUpSound.{give-up-records, give-up-opens}
+use Rattle.book.proofs.Laws.DecideSound.{decide-opens}
+use Rattle.book.proofs.Laws.HearSound.{hear-records}
+use Rattle.book.proofs.Laws.BeginSound.{Begins, begin-records, begin-opens, free-place}
+use Rattle.book.proofs.Laws.Calls.{Readies, GivesUp, Decides, Hears, begin-accepted, ready-tests, give-up-tests, complete-tests, abort-tests, hear-tests, begin-tests, ready-leaves, give-up-leaves, decide-leaves, hear-leaves, begin-leaves}
 use Rattle.demands.specs.Calls.{beginsWith}
 use Rattle.demands.specs.Demands.{openAfter}
-use Rattle.demands.proofs.Acts.{Left, left, Acts, acts}
+use Rattle.demands.proofs.Acts.{Left, left, done-left, Acts, acts}
 
 module _ (w : ℕ) (b : Book) (t : Shaped w b) where
   -- ---- ready
@@ -43,15 +43,13 @@ module _ (w : ℕ) (b : Book) (t : Shaped w b) where
 
     readyLeft : Left w (readied w b n d) (ready w b n d .book)
     unfolding ready done
-    readyLeft = let f = ready-facts in
-        left w (readied w b n d) _ (done-accepted w (readyAnswer w b n d) (readied w b n d) b e)
-        (ready-but w b (sound-but w b (f .sound)) t n d (f .place) (f .district) (f .last)) (ready-shaped w b n d t)
+    readyLeft = done-left w (readyAnswer w b n d) (readied w b n d) b e (ready-leaves w b n d t ready-facts)
 
     pub ready-acts : Acts w b (ready w b n d .book) n (reported d (openOf w b n))
     unfolding readied
     ready-acts =
         let f = ready-facts in
-        acts w b (readied w b n d) _ n _ (f .sound) (ready-whole w b n d (record { sound = f .sound; shaped = t })) (f .place) refl readyLeft refl refl refl
+        acts w b (readied w b n d) _ n _ (f .sound) (f .place) refl readyLeft refl refl refl
         (ready-opens w b (sound-but w b (f .sound)) t n d (f .place) (f .district) (f .last))
 
     pub ready-record : (x : ℕ) → recordAt (ready w b n d .book) x ≡ cond (eqb x d) (readyRecord (recordAt b x)) (recordAt b x)
@@ -68,67 +66,59 @@ module _ (w : ℕ) (b : Book) (t : Shaped w b) where
 
     giveUpLeft : Left w (gaveUp w b n d) (giveUp w b n d .book)
     unfolding giveUp done
-    giveUpLeft = let f = give-up-facts in
-        left w (gaveUp w b n d) _ (done-accepted w (giveUpAnswer w b n d) (gaveUp w b n d) b e)
-        (give-up-but w b (f .sound) t n d (f .place) (f .district) (f .last)) (give-up-shaped w b (f .sound) t n d (f .place) (f .district) (f .last))
+    giveUpLeft = done-left w (giveUpAnswer w b n d) (gaveUp w b n d) b e (give-up-leaves w b n d t give-up-facts)
 
     pub give-up-acts : Acts w b (giveUp w b n d .book) n (cond (computingOn n (recordAt b d)) (marked d (openOf w b n)) (openOf w b n))
     unfolding gaveUp
     give-up-acts =
         let f = give-up-facts in
-        acts w b (gaveUp w b n d) _ n _ (f .sound) (give-up-whole w b n d (record { sound = f .sound; shaped = t })) (f .place) (by-cases (computingOn n (recordAt b d)) (λ k. rw k) (λ k. rw k)) giveUpLeft refl refl refl
+        acts w b (gaveUp w b n d) _ n _ (f .sound) (f .place) (by-cases (computingOn n (recordAt b d)) (λ k. rw k) (λ k. rw k)) giveUpLeft refl refl refl
         (give-up-opens w b (f .sound) t n d (f .place) (f .district) (f .last))
 
     pub give-up-record : (x : ℕ) → recordAt (giveUp w b n d .book) x ≡ cond (eqb x d) noRecord (recordAt b x)
     give-up-record x = let f = give-up-facts in giveUpLeft .records x ∙ give-up-records w b (f .sound) t n d (f .place) (f .district) (f .last) x
 
-  -- ---- complete
+  -- ---- complete and abort
+
+  module _ (n v : ℕ) (a : Answer) (e : accepted a ≡ true) (f : Decides w b n v) where
+    decideLeft : Left w (decide w b n v) (done w a (decide w b n v) b .book)
+    decideLeft = done-left w a (decide w b n v) b e (decide-leaves w b n v t f)
+
+    decide-acts : Acts w b (done w a (decide w b n v) b .book) n (withDecision v (openOf w b n))
+    unfolding decide
+    decide-acts =
+        acts w b (decide w b n v) _ n _ (f .sound) (f .place) refl decideLeft refl refl refl
+        (decide-opens w b (sound-but w b (f .sound)) t n (f .place) v)
+
+    decide-record : (x : ℕ) → recordAt (done w a (decide w b n v) b .book) x ≡ recordAt b x
+    unfolding decide
+    decide-record x = decideLeft .records x
 
   module _ (n : ℕ) (e : accepted (complete w b n .answer) ≡ true) where
-    pub complete-facts : Completes w b n
+    pub complete-facts : Decides w b n 1
     unfolding complete done
     complete-facts = complete-tests w b n e
 
-    completeLeft : Left w (decide w b n 1) (complete w b n .book)
-    unfolding complete done
-    completeLeft = let f = complete-facts in
-        left w (decide w b n 1) _ (done-accepted w (completeAnswer w b n) (decide w b n 1) b e)
-        (decide-but w b (sound-but w b (f .sound)) t n (f .place) 1 (omega arith) (λ k. f .ready)) (decide-shaped w b n 1 t)
-
     pub complete-acts : Acts w b (complete w b n .book) n (withDecision 1 (openOf w b n))
-    unfolding decide
-    complete-acts =
-        let f = complete-facts in
-        acts w b (decide w b n 1) _ n _ (f .sound) (complete-whole w b n (record { sound = f .sound; shaped = t })) (f .place) refl completeLeft refl refl refl
-        (decide-opens w b (sound-but w b (f .sound)) t n (f .place) 1)
+    unfolding complete done
+    complete-acts = decide-acts n 1 (completeAnswer w b n) e complete-facts
 
     pub complete-record : (x : ℕ) → recordAt (complete w b n .book) x ≡ recordAt b x
-    unfolding decide
-    complete-record x = completeLeft .records x
-
-  -- ---- abort
+    unfolding complete done
+    complete-record = decide-record n 1 (completeAnswer w b n) e complete-facts
 
   module _ (n : ℕ) (e : accepted (abort w b n .answer) ≡ true) where
-    pub abort-facts : Aborts w b n
+    pub abort-facts : Decides w b n 2
     unfolding abort done
     abort-facts = abort-tests w b n e
 
-    abortLeft : Left w (decide w b n 2) (abort w b n .book)
-    unfolding abort done
-    abortLeft = let f = abort-facts in
-        left w (decide w b n 2) _ (done-accepted w (abortAnswer w b n) (decide w b n 2) b e)
-        (decide-but w b (sound-but w b (f .sound)) t n (f .place) 2 (omega arith) (λ k. absurd (omega arith))) (decide-shaped w b n 2 t)
-
     pub abort-acts : Acts w b (abort w b n .book) n (withDecision 2 (openOf w b n))
-    unfolding decide
-    abort-acts =
-        let f = abort-facts in
-        acts w b (decide w b n 2) _ n _ (f .sound) (abort-whole w b n (record { sound = f .sound; shaped = t })) (f .place) refl abortLeft refl refl refl
-        (decide-opens w b (sound-but w b (f .sound)) t n (f .place) 2)
+    unfolding abort done
+    abort-acts = decide-acts n 2 (abortAnswer w b n) e abort-facts
 
     pub abort-record : (x : ℕ) → recordAt (abort w b n .book) x ≡ recordAt b x
-    unfolding decide
-    abort-record x = abortLeft .records x
+    unfolding abort done
+    abort-record = decide-record n 2 (abortAnswer w b n) e abort-facts
 
   -- ---- hear
 
@@ -139,9 +129,7 @@ module _ (w : ℕ) (b : Book) (t : Shaped w b) where
 
     hearLeft : Left w (heard w b n d) (hear w b n d .book)
     unfolding hear done
-    hearLeft = let f = hear-facts in
-        left w (heard w b n d) _ (done-accepted w (hearAnswer w b n d) (heard w b n d) b e)
-        (hear-but w b (f .sound) t n d (f .place) (f .district)) (hear-shaped w b (f .sound) t n d (f .place) (f .district))
+    hearLeft = done-left w (hearAnswer w b n d) (heard w b n d) b e (hear-leaves w b n d t hear-facts)
 
     hearOpens : (q : ℕ) → openAt (heard w b n d) q ≡ cond (eqb q (placeOf w b n)) (openOf w b n) (openAt b q)
     unfolding heard
@@ -151,8 +139,7 @@ module _ (w : ℕ) (b : Book) (t : Shaped w b) where
     unfolding heard
     hear-acts =
         let f = hear-facts in
-        acts w b (heard w b n d) _ n _ (f .sound) (hear-whole w b n d (record { sound = f .sound; shaped = t })) (f .place) refl hearLeft refl refl refl
-        (hearOpens)
+        acts w b (heard w b n d) _ n _ (f .sound) (f .place) refl hearLeft refl refl refl hearOpens
 
     pub hear-record : (x : ℕ) → recordAt (hear w b n d .book) x ≡ cond (eqb x d) (hearRecord n (recordAt b x)) (recordAt b x)
     hear-record x = let f = hear-facts in
@@ -167,12 +154,10 @@ module _ (w : ℕ) (b : Book) (t : Shaped w b) where
     begin-facts = begin-tests w b bytes e
 
     beginLeft : Left w (begun w b (steps bytes)) (begin w b bytes .book)
-    beginLeft = let f = begin-facts in
-        left w (begun w b (steps bytes)) _ (begin-accepted w b bytes e)
-        (begin-but w b (f .0) t (steps bytes) (f .1)) (begin-shaped w b (f .0) t (steps bytes) (f .1))
+    beginLeft = left w (begun w b (steps bytes)) _ (begin-accepted w b bytes e) (begin-leaves w b (steps bytes) t begin-facts)
 
     pub begin-after : Whole w (begin w b bytes .book)
-    begin-after = begin-whole w b bytes (record { sound = begin-facts .0; shaped = t })
+    begin-after = beginLeft .whole
 
     pub begin-last : begin w b bytes .book .last .0 ≡ suc (b .last .0)
     unfolding begun
@@ -207,7 +192,7 @@ module _ (w : ℕ) (b : Book) (t : Shaped w b) where
 
     -- no transaction that was open is forgotten but as it must be
     pub begin-stays : (q : ℕ) → q < w → isOpen (openAt b q) ≡ true
-        → isOpen (openAt (begin w b bytes .book) q) ≡ (not (decided (openAt b q)) || needed w (begin w b bytes .book) q (openAt b q))
+        → isOpen (openAt (begin w b bytes .book) q) ≡ kept w (begin w b bytes .book) q (openAt b q)
     begin-stays q h k =
         let f = begin-facts in
         let same : openAt (begun w b (steps bytes)) q ≡ openAt b q = begin-opens w b (f .0) t (steps bytes) (f .1) q

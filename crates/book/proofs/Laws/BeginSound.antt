@@ -32,10 +32,9 @@ use Rattle.book.specs.Records.{beginRecord}
 use Rattle.book.specs.Items.{becomes}
 use Rattle.book.specs.Begin.{someStep, badStep, outside, heldAt, results, someBusy, tooMany, touchesDistrict, beginItem, begun}
 use Rattle.book.specs.Sound.{Sound}
-use Rattle.book.proofs.Laws.Rows.{length-rows, getD-rows, past-rows, getD-set}
+use Rattle.book.proofs.Laws.Rows.{length-rows, getD-rows, past-rows, each-row, getD-set}
 use Rattle.book.proofs.Laws.Programs.{run-reads, run-range}
-use Rattle.book.proofs.Laws.Touched.{touched-below}
-use Rattle.book.proofs.Laws.Touched.{touched-idle as district-idle}
+use Rattle.book.proofs.Laws.Touched.{touched-below, touched-idle as district-idle}
 use Rattle.book.proofs.Laws.Sound.{place-named}
 use Rattle.book.specs.Shaped.{ShapedItem, Shaped}
 use Rattle.book.proofs.Laws.Values.{begin-item}
@@ -290,10 +289,12 @@ module _ (w : ℕ) (b : Book) (sound : Sound w b) (t : Shaped w b) (xs : List St
     gave = pow-pos (b .districts);
     decisions = omega arith;
     given = omega arith;
-    apart = λ d h k. member-none d;
-    readyTouched = λ d h k. absurd (false≢true (sym (member-none d) ∙ k));
-    gaveTouched = λ d h k. absurd (false≢true (sym (member-none d) ∙ k));
-    completedReady = λ k. absurd (omega arith);
+    sets = λ d h. record {
+      apart = λ k. member-none d;
+      readyTouched = λ k. absurd (false≢true (sym (member-none d) ∙ k));
+      gaveTouched = λ k. absurd (false≢true (sym (member-none d) ∙ k));
+      completedReady = λ k. absurd (omega arith);
+    };
   }
 
   oldRow : (o : Open) → OpenRow (b .districts) (b .last .0) o → OpenRow (b .districts) n o
@@ -303,10 +304,7 @@ module _ (w : ℕ) (b : Book) (sound : Sound w b) (t : Shaped w b) (xs : List St
     gave = r .gave;
     decisions = r .decisions;
     given = omega (arith, r .given);
-    apart = r .apart;
-    readyTouched = r .readyTouched;
-    gaveTouched = r .gaveTouched;
-    completedReady = r .completedReady;
+    sets = r .sets;
   }
 
   rows : (m : ℕ) → m < w → isOpen (openAt c m) ≡ true → OpenRow (b .districts) n (openAt c m)
@@ -356,15 +354,13 @@ module _ (w : ℕ) (b : Book) (sound : Sound w b) (t : Shaped w b) (xs : List St
     freeUnused = λ m h k i a. free i a m (s .freeUnused m h (stillFree m k .1));
   }
 
-  shapedAt : (i : ℕ) → i < mostItems → ShapedItem (itemAt c i)
-  shapedAt i h =
+  itemShaped : (i : ℕ) → i < b .count → ShapedItem (beginItem w b xs i (itemAt b i))
+  itemShaped i h =
       let x : Item = itemAt b i in
-      by-cases (ltb i (b .count))
-      (λ k. let a : i < b .count = ltb-true i (b .count) k in
+      let old : ShapedItem x = t .rows i (omega (arith, sound .fewItems)) in
       by-cases (touches xs i)
-      (λ z. rw (begin-item w b sound t xs i a, itemTouched i x z) (record { held = t .rows i h .held; pending = packed-rows (results w b xs i) (results-few i z) }))
-      (λ z. rw (begin-item w b sound t xs i a, itemElse i x z) (t .rows i h)))
-      (λ k. rw (past i (ltb-false i (b .count) k)) (t .rows i h))
+      (λ z. rw (itemTouched i x z) (record { held = old .held; pending = packed-rows (results w b xs i) (results-few i z) }))
+      (λ z. rw (itemElse i x z) old)
 
   pub begin-shaped : Shaped w (begun w b xs)
   unfolding begun
@@ -372,5 +368,5 @@ module _ (w : ℕ) (b : Book) (sound : Sound w b) (t : Shaped w b) (xs : List St
     records = length-rows (λ d r. cond (touchesDistrict b xs d) (beginRecord n) r) noRecord (b .districts) (b .records) ∙ t .records;
     items = length-rows (beginItem w b xs) voidItem (b .count) (b .items) ∙ t .items;
     places = length-set (b .«open») q new ∙ t .places;
-    rows = shapedAt;
+    rows = each-row (beginItem w b xs) voidItem ShapedItem (b .count) mostItems (b .items) (omega (arith, t .items)) (t .rows) itemShaped;
   }

@@ -8,8 +8,7 @@ use lib.Dec.{eqb}
 use borrow.Author.Tests.{eq-eqb, eqb-true, eqb-false}
 use Rattle.conditions.specs.Sets.{member}
 use Rattle.conditions.proofs.Laws.Below.{and-left, and-right, by-cases, any-none, none-any, is-first, first-le, first-passes, before-first}
-use Rattle.polyvalues.specs.Polyvalues.{mostPairs, inUse}
-use Rattle.polyvalues.specs.Polyvalues.{sound as soundPolyvalue}
+use Rattle.polyvalues.specs.Polyvalues.{mostPairs, inUse, sound as soundPolyvalue}
 use Rattle.polyvalues.specs.Operations.{together}
 use Rattle.book.specs.declared.Record.{Record}
 use Rattle.book.specs.declared.Item.{Item}
@@ -41,6 +40,13 @@ pub record ItemRow (w districts n q : ℕ) (x : Item) : Type 0 where
   pub ownFree : 1 ≤ n → itemDepends w x q ≡ false
   pub fewTogether : together (inUse (x .held)) (inUse (x .pending)) ≤ mostPairs
 
+-- the sets of an open transaction at district d
+pub record SetsAt (o : Open) (d : ℕ) : Type 0 where
+  pub apart : member (o .ready) d ≡ true → member (o .gave) d ≡ false
+  pub readyTouched : member (o .ready) d ≡ true → member (o .touched) d ≡ true
+  pub gaveTouched : member (o .gave) d ≡ true → member (o .touched) d ≡ true
+  pub completedReady : o .decision ≡ 1 → member (o .touched) d ≡ true → member (o .ready) d ≡ true
+
 -- an open transaction, where the last number given is this
 pub record OpenRow (districts last : ℕ) (o : Open) : Type 0 where
   pub touched : o .touched < 2 ^ districts
@@ -48,10 +54,7 @@ pub record OpenRow (districts last : ℕ) (o : Open) : Type 0 where
   pub gave : o .gave < 2 ^ districts
   pub decisions : o .decision ≤ 2
   pub given : o .number .0 ≤ last
-  pub apart : (d : ℕ) → d < districts → member (o .ready) d ≡ true → member (o .gave) d ≡ false
-  pub readyTouched : (d : ℕ) → d < districts → member (o .ready) d ≡ true → member (o .touched) d ≡ true
-  pub gaveTouched : (d : ℕ) → d < districts → member (o .gave) d ≡ true → member (o .touched) d ≡ true
-  pub completedReady : o .decision ≡ 1 → (d : ℕ) → d < districts → member (o .touched) d ≡ true → member (o .ready) d ≡ true
+  pub sets : (d : ℕ) → d < districts → SetsAt o d
 
 -- ---- the book
 
@@ -101,10 +104,12 @@ sound-but w b s = record {
     gave = s .gave q h k;
     decisions = s .decisions q h k;
     given = s .given q h k;
-    apart = s .apart q h k;
-    readyTouched = s .readyTouched q h k;
-    gaveTouched = s .gaveTouched q h k;
-    completedReady = s .completedReady q h k;
+    sets = λ d l. record {
+      apart = s .apart q h k d l;
+      readyTouched = s .readyTouched q h k d l;
+      gaveTouched = s .gaveTouched q h k d l;
+      completedReady = λ v. s .completedReady q h k v d l;
+    };
   };
   differ = s .differ;
   pastDistricts = s .pastDistricts;
@@ -143,10 +148,10 @@ but-sound w b s n = record {
   waitingReady = λ d h. s .districts d h .waitingReady;
   computingNotReady = λ d h. s .districts d h .computingNotReady;
   computingNotGave = λ d h. s .districts d h .computingNotGave;
-  apart = λ q h k. s .opens q h k .apart;
-  readyTouched = λ q h k. s .opens q h k .readyTouched;
-  gaveTouched = λ q h k. s .opens q h k .gaveTouched;
-  completedReady = λ q h k. s .opens q h k .completedReady;
+  apart = λ q h k d l. s .opens q h k .sets d l .apart;
+  readyTouched = λ q h k d l. s .opens q h k .sets d l .readyTouched;
+  gaveTouched = λ q h k d l. s .opens q h k .sets d l .gaveTouched;
+  completedReady = λ q h k v d l. s .opens q h k .sets d l .completedReady v;
   idleSame = λ i h. s .items i h .idleSame;
   ownFree = λ i h. s .items i h .ownFree;
   fewTogether = λ i h. s .items i h .fewTogether;

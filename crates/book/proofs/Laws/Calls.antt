@@ -2,13 +2,13 @@
 use mathlib.Core.Path.{_≡_, refl}
 use mathlib.Core.Bool.{Bool, true, false, not, _&&_}
 use mathlib.Core.List.{List, [], _∷_}
-use Prim.Native.Nat.{ℕ, _<_}
+use Prim.Native.Nat.{ℕ, _≤_, _<_}
 use native.Mathlib.Omega.{arith}
 use borrow.Author.Tests.{ltb-true, not-false}
 use Rattle.conditions.specs.Sets.{member}
 use Rattle.conditions.proofs.Laws.Below.{or-right, by-cases, any-none}
 use Rattle.book.specs.declared.Answer.{Answer}
-use Rattle.book.specs.declared.Answer.the-variants.{NoDistrict, NotOpen, NotOnIt, NotDecided, Unsound}
+use Rattle.book.specs.declared.Answer.the-variants.{NoDistrict, NotOpen, NotOnIt, NotDecided, AlreadyDecided, Unsound}
 use Rattle.book.specs.declared.Book.{Book}
 use Rattle.book.specs.declared.Step.{Step}
 use Rattle.book.specs.Answers.{accepted, firstOf}
@@ -53,14 +53,18 @@ pub begin-accepted : (w : ℕ) (b : Book) (bytes : List ℕ) → accepted (begin
 unfolding begin
 begin-accepted w b bytes e = rw e
 
--- forgetting ends it
-forgotten : (w : ℕ) (b : Book) → SoundBut w b → Shaped w b → Whole w (forget w b)
-forgotten w b s t = record { sound = forget-makes-sound w b s t; shaped = forget-shaped w b t }
+-- what an event leaves, which forgetting ends
+pub record WholeBut (w : ℕ) (b : Book) : Type 0 where
+  pub but : SoundBut w b
+  pub shaped : Shaped w b
 
-done-whole : (w : ℕ) (a : Answer) (after before : Book) → Whole w before → (accepted a ≡ true → Whole w (forget w after)) → Whole w (done w a after before .book)
+pub forgotten : (w : ℕ) (b : Book) → WholeBut w b → Whole w (forget w b)
+forgotten w b f = record { sound = forget-makes-sound w b (f .but) (f .shaped); shaped = forget-shaped w b (f .shaped) }
+
+done-whole : (w : ℕ) (a : Answer) (after before : Book) → Whole w before → (accepted a ≡ true → WholeBut w after) → Whole w (done w a after before .book)
 done-whole w a after before s f =
     by-cases (accepted a)
-    (λ e. rw (done-accepted w a after before e) (f e))
+    (λ e. rw (done-accepted w a after before e) (forgotten w after (f e)))
     (λ e. rw (done-refused w a after before e) s)
 
 -- ---- events at a district
@@ -94,13 +98,13 @@ pub ready-tests : (w : ℕ) (b : Book) (n d : ℕ) → accepted (readyAnswer w b
 unfolding readyAnswer
 ready-tests w b n d = at-district w b n d (computingOn n (recordAt b d)) NotOnIt refl
 
-pub ready-sound : (w : ℕ) (b : Book) (n d : ℕ) → Readies w b n d → Shaped w b → Whole w (forget w (readied w b n d))
-ready-sound w b n d f t =
-    forgotten w (readied w b n d) (ready-but w b (sound-but w b (f .sound)) t n d (f .place) (f .district) (f .last)) (ready-shaped w b n d t)
+pub ready-leaves : (w : ℕ) (b : Book) (n d : ℕ) → Shaped w b → Readies w b n d → WholeBut w (readied w b n d)
+ready-leaves w b n d t f =
+    record { but = ready-but w b (sound-but w b (f .sound)) t n d (f .place) (f .district) (f .last); shaped = ready-shaped w b n d t }
 
 pub ready-whole : (w : ℕ) (b : Book) (n d : ℕ) → Whole w b → Whole w (ready w b n d .book)
 unfolding ready
-ready-whole w b n d s = done-whole w _ _ b s (λ e. ready-sound w b n d (ready-tests w b n d e) (s .shaped))
+ready-whole w b n d s = done-whole w _ _ b s (λ e. ready-leaves w b n d (s .shaped) (ready-tests w b n d e))
 
 -- ---- give up
 
@@ -111,70 +115,61 @@ pub give-up-tests : (w : ℕ) (b : Book) (n d : ℕ) → accepted (giveUpAnswer 
 unfolding giveUpAnswer
 give-up-tests w b n d = at-district w b n d (busyOn n (recordAt b d)) NotOnIt refl
 
-pub give-up-sound : (w : ℕ) (b : Book) (n d : ℕ) → GivesUp w b n d → Shaped w b → Whole w (forget w (gaveUp w b n d))
-give-up-sound w b n d f t =
-    forgotten w (gaveUp w b n d) (give-up-but w b (f .sound) t n d (f .place) (f .district) (f .last)) (give-up-shaped w b (f .sound) t n d (f .place) (f .district) (f .last))
+pub give-up-leaves : (w : ℕ) (b : Book) (n d : ℕ) → Shaped w b → GivesUp w b n d → WholeBut w (gaveUp w b n d)
+give-up-leaves w b n d t f =
+    record { but = give-up-but w b (f .sound) t n d (f .place) (f .district) (f .last); shaped = give-up-shaped w b (f .sound) t n d (f .place) (f .district) (f .last) }
 
 pub give-up-whole : (w : ℕ) (b : Book) (n d : ℕ) → Whole w b → Whole w (giveUp w b n d .book)
 unfolding giveUp
-give-up-whole w b n d s = done-whole w _ _ b s (λ e. give-up-sound w b n d (give-up-tests w b n d e) (s .shaped))
+give-up-whole w b n d s = done-whole w _ _ b s (λ e. give-up-leaves w b n d (s .shaped) (give-up-tests w b n d e))
 
--- ---- complete
+-- ---- complete and abort
 
-pub record Completes (w : ℕ) (b : Book) (n : ℕ) : Type 0 where
+-- what is so where the decision v is accepted
+pub record Decides (w : ℕ) (b : Book) (n v : ℕ) : Type 0 where
   pub sound : Sound w b
   pub place : placeOf w b n < w
   pub undecided : decided (openOf w b n) ≡ false
-  pub ready : (d : ℕ) → d < b .districts → member (openOf w b n .touched) d ≡ true → member (openOf w b n .ready) d ≡ true
+  pub known : v ≤ 2
+  pub ready : v ≡ 1 → (d : ℕ) → d < b .districts → member (openOf w b n .touched) d ≡ true → member (openOf w b n .ready) d ≡ true
 
-pub complete-tests : (w : ℕ) (b : Book) (n : ℕ) → accepted (completeAnswer w b n) ≡ true → Completes w b n
-unfolding completeAnswer someNotReady
-complete-tests w b n e =
+-- the tests of both, and then those that only one has
+decide-tests : (w : ℕ) (b : Book) (n v : ℕ) (more : List (Bool × Answer)) → v ≤ 2
+    → (accepted (firstOf more) ≡ true → v ≡ 1 → someNotReady b (openOf w b n) ≡ false)
+    → accepted (firstOf ((unsound w b, Unsound) ∷ (notOpen w b n, NotOpen) ∷ (decided (openOf w b n), AlreadyDecided) ∷ more)) ≡ true → Decides w b n v
+unfolding someNotReady
+decide-tests w b n v more known ready e =
     let o = openOf w b n in
     let e1 = later-accepted _ _ _ refl e in
     let e2 = later-accepted _ _ _ refl e1 in
     let e3 = later-accepted _ _ _ refl e2 in
-    let all = any-none (b .districts) (λ d. member (o .touched) d && not (member (o .ready) d)) (test-false _ _ _ refl e3) in
     record {
       sound = test-sound w b (not-false _ (test-false _ _ _ refl e));
       place = ltb-true (placeOf w b n) w (not-false _ (test-false _ _ _ refl e1));
       undecided = test-false _ _ _ refl e2;
-      ready = λ d h k. not-false _ (rw k at (all d h));
+      known = known;
+      ready = λ one d h k. not-false _ (rw k at (any-none (b .districts) (λ d. member (o .touched) d && not (member (o .ready) d)) (ready e3 one) d h));
     }
 
-pub complete-sound : (w : ℕ) (b : Book) (n : ℕ) → Completes w b n → Shaped w b → Whole w (forget w (decide w b n 1))
-complete-sound w b n f t =
-    forgotten w (decide w b n 1) (decide-but w b (sound-but w b (f .sound)) t n (f .place) 1 (omega arith) (λ k. f .ready)) (decide-shaped w b n 1 t)
+pub complete-tests : (w : ℕ) (b : Book) (n : ℕ) → accepted (completeAnswer w b n) ≡ true → Decides w b n 1
+unfolding completeAnswer
+complete-tests w b n = decide-tests w b n 1 _ (omega arith) (λ e one. test-false _ _ _ refl e)
+
+pub abort-tests : (w : ℕ) (b : Book) (n : ℕ) → accepted (abortAnswer w b n) ≡ true → Decides w b n 2
+unfolding abortAnswer
+abort-tests w b n = decide-tests w b n 2 [] (omega arith) (λ e one. absurd (omega arith))
+
+pub decide-leaves : (w : ℕ) (b : Book) (n v : ℕ) → Shaped w b → Decides w b n v → WholeBut w (decide w b n v)
+decide-leaves w b n v t f =
+    record { but = decide-but w b (sound-but w b (f .sound)) t n (f .place) v (f .known) (f .ready); shaped = decide-shaped w b n v t }
 
 pub complete-whole : (w : ℕ) (b : Book) (n : ℕ) → Whole w b → Whole w (complete w b n .book)
 unfolding complete
-complete-whole w b n s = done-whole w _ _ b s (λ e. complete-sound w b n (complete-tests w b n e) (s .shaped))
-
--- ---- abort
-
-pub record Aborts (w : ℕ) (b : Book) (n : ℕ) : Type 0 where
-  pub sound : Sound w b
-  pub place : placeOf w b n < w
-  pub undecided : decided (openOf w b n) ≡ false
-
-pub abort-tests : (w : ℕ) (b : Book) (n : ℕ) → accepted (abortAnswer w b n) ≡ true → Aborts w b n
-unfolding abortAnswer
-abort-tests w b n e =
-    let e1 = later-accepted _ _ _ refl e in
-    let e2 = later-accepted _ _ _ refl e1 in
-    record {
-      sound = test-sound w b (not-false _ (test-false _ _ _ refl e));
-      place = ltb-true (placeOf w b n) w (not-false _ (test-false _ _ _ refl e1));
-      undecided = test-false _ _ _ refl e2;
-    }
-
-pub abort-sound : (w : ℕ) (b : Book) (n : ℕ) → Aborts w b n → Shaped w b → Whole w (forget w (decide w b n 2))
-abort-sound w b n f t =
-    forgotten w (decide w b n 2) (decide-but w b (sound-but w b (f .sound)) t n (f .place) 2 (omega arith) (λ k. absurd (omega arith))) (decide-shaped w b n 2 t)
+complete-whole w b n s = done-whole w _ _ b s (λ e. decide-leaves w b n 1 (s .shaped) (complete-tests w b n e))
 
 pub abort-whole : (w : ℕ) (b : Book) (n : ℕ) → Whole w b → Whole w (abort w b n .book)
 unfolding abort
-abort-whole w b n s = done-whole w _ _ b s (λ e. abort-sound w b n (abort-tests w b n e) (s .shaped))
+abort-whole w b n s = done-whole w _ _ b s (λ e. decide-leaves w b n 2 (s .shaped) (abort-tests w b n e))
 
 -- ---- hear
 
@@ -185,13 +180,13 @@ pub hear-tests : (w : ℕ) (b : Book) (n d : ℕ) → accepted (hearAnswer w b n
 unfolding hearAnswer
 hear-tests w b n d = at-district w b n d (decided (openOf w b n)) NotDecided refl
 
-pub hear-sound : (w : ℕ) (b : Book) (n d : ℕ) → Hears w b n d → Shaped w b → Whole w (forget w (heard w b n d))
-hear-sound w b n d f t =
-    forgotten w (heard w b n d) (hear-but w b (f .sound) t n d (f .place) (f .district)) (hear-shaped w b (f .sound) t n d (f .place) (f .district))
+pub hear-leaves : (w : ℕ) (b : Book) (n d : ℕ) → Shaped w b → Hears w b n d → WholeBut w (heard w b n d)
+hear-leaves w b n d t f =
+    record { but = hear-but w b (f .sound) t n d (f .place) (f .district); shaped = hear-shaped w b (f .sound) t n d (f .place) (f .district) }
 
 pub hear-whole : (w : ℕ) (b : Book) (n d : ℕ) → Whole w b → Whole w (hear w b n d .book)
 unfolding hear
-hear-whole w b n d s = done-whole w _ _ b s (λ e. hear-sound w b n d (hear-tests w b n d e) (s .shaped))
+hear-whole w b n d s = done-whole w _ _ b s (λ e. hear-leaves w b n d (s .shaped) (hear-tests w b n d e))
 
 -- ---- begin
 
@@ -215,12 +210,12 @@ begin-tests w b bytes e =
       },
     )
 
-pub begin-sound : (w : ℕ) (b : Book) (xs : List Step) → Sound w b → Begins w b xs → Shaped w b → Whole w (forget w (begun w b xs))
-begin-sound w b xs s f t = forgotten w (begun w b xs) (begin-but w b s t xs f) (begin-shaped w b s t xs f)
+pub begin-leaves : (w : ℕ) (b : Book) (xs : List Step) → Shaped w b → (Sound w b) × (Begins w b xs) → WholeBut w (begun w b xs)
+begin-leaves w b xs t f = record { but = begin-but w b (f .0) t xs (f .1); shaped = begin-shaped w b (f .0) t xs (f .1) }
 
 pub begin-whole : (w : ℕ) (b : Book) (bytes : List ℕ) → Whole w b → Whole w (begin w b bytes .book)
 unfolding begin
 begin-whole w b bytes s =
     by-cases (accepted (beginAnswer w b bytes))
-    (λ e. rw (begin-accepted w b bytes e) (begin-sound w b (steps bytes) (begin-tests w b bytes e .0) (begin-tests w b bytes e .1) (s .shaped)))
+    (λ e. rw (begin-accepted w b bytes e) (forgotten w _ (begin-leaves w b (steps bytes) (s .shaped) (begin-tests w b bytes e))))
     (λ e. rw (begin-refused w b bytes e) s)

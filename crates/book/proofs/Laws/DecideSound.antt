@@ -52,10 +52,12 @@ module _ (w : ℕ) (b : Book) (s : SoundBut w b) (t : Shaped w b) (n : ℕ) (p :
           gave = old .gave;
           decisions = few;
           given = old .given;
-          apart = old .apart;
-          readyTouched = old .readyTouched;
-          gaveTouched = old .gaveTouched;
-          completedReady = ready;
+          sets = λ d h. record {
+            apart = old .sets d h .apart;
+            readyTouched = old .sets d h .readyTouched;
+            gaveTouched = old .sets d h .gaveTouched;
+            completedReady = λ k. ready k d h;
+          };
         };
         districts = λ d h. district-stays w d _ _ _ _ (recordAt b d) (s .districts d h) (λ k. refl) (λ k. seen d _);
         items = s .items;

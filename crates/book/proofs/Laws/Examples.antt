@@ -6,27 +6,23 @@ use Prim.Native.Nat.{ℕ}
 use lib.Dec.{eqb}
 use lib.IntN.{pos, negsuc}
 use borrow.Author.Tests.{eqb-true}
-use Rattle.conditions.specs.Places.{places}
+use Rattle.conditions.specs.Places.{places, withPlace}
 use Rattle.polyvalues.specs.declared.polyvalue.Pair.{Pair}
-use Rattle.polyvalues.specs.Pairs.{pair}
+use Rattle.polyvalues.specs.Pairs.{pair, depends, certain}
 use Rattle.book.specs.declared.Book.{Book}
 use Rattle.book.specs.declared.Begun.{Begun}
-use Rattle.book.specs.Book.{itemAt, openAt}
+use Rattle.book.specs.Book.{itemAt, openAt, noItem, noBook, recordOn, itemOn, placeOf, freePlace, itemDepends, someDepends, someOn}
 use Rattle.conditions.specs.Below.{all, any, first}
 use Rattle.conditions.specs.Sets.{odd, member, setOf}
-use Rattle.conditions.specs.Places.{withPlace}
 use Rattle.conditions.specs.Conditions.{full, union, intersection, complement, empty, completed, selected, reduced, dependsOn}
 use Rattle.polyvalues.specs.Values.{inRange, signed, ofBytes}
-use Rattle.polyvalues.specs.Pairs.{depends, certain}
-use Rattle.polyvalues.specs.Polyvalues.{wellFormed, inUse, tidy, packed}
-use Rattle.polyvalues.specs.Polyvalues.{sound as soundPolyvalue}
+use Rattle.polyvalues.specs.Polyvalues.{wellFormed, inUse, tidy, packed, sound as soundPolyvalue}
 use Rattle.polyvalues.specs.Simplify.{insert, join, simplifiedFrom, simplified, tableBelow, canonOver, canon}
 use Rattle.polyvalues.specs.Operations.{reduce, select, different, together, same}
 use Rattle.book.specs.Answers.{accepted, firstOf}
 use Rattle.book.specs.Rows.{rowsFrom}
-use Rattle.book.specs.Book.{noItem, noBook, recordOn, itemOn, placeOf, freePlace, itemDepends, someDepends, someOn}
 use Rattle.book.specs.Programs.{steps, declines, after, afterAll, declinedFrom, run, names, touches}
-use Rattle.book.specs.Forget.{needed, remembered, forget}
+use Rattle.book.specs.Forget.{needed, kept, remembered, forget}
 use Rattle.book.specs.SoundTest.{samePolyvalue, sameItem, zeroRecord, zeroOpen, soundBusy, soundRecord, soundDistrict, soundPending, soundRow, soundItem, soundAt, soundOpen, soundPlace, sound}
 use Rattle.book.specs.Records.{computingOn, waitingOn, busyOn, hearRecord}
 use Rattle.book.specs.Items.{concerned, split, reduceItem}
@@ -67,7 +63,7 @@ record Tests : Type 0 where
   nine : holds told 0 2 (pair (pos 0) T2 ∷ pair (pos 4) (aborted T2) ∷ []) ≡ true
 
 tests : Tests
-unfolding all any first odd member setOf withPlace full union intersection complement empty completed selected reduced dependsOn inRange signed ofBytes depends certain wellFormed inUse tidy packed soundPolyvalue insert join simplifiedFrom simplified tableBelow canonOver canon reduce select different together firstOf rowsFrom noItem noBook recordOn itemOn placeOf freePlace itemDepends someDepends someOn steps declines after afterAll declinedFrom run names touches needed remembered forget samePolyvalue sameItem zeroRecord zeroOpen soundBusy soundRecord soundDistrict soundPending soundRow soundItem soundAt soundOpen soundPlace sound computingOn waitingOn busyOn hearRecord concerned split reduceItem done goodOpening openedItem openedBook opened badStep badProgram outside results grant someBusy tooMany beginAnswer touchesDistrict beginItem begun begin readyAnswer readied ready giveUpAnswer giveUpItem gaveUp giveUp someNotReady completeAnswer decide complete hearAnswer hearItem heard hear bookOf leftOpen unsure twice told
+unfolding all any first odd member setOf withPlace full union intersection complement empty completed selected reduced dependsOn inRange signed ofBytes depends certain wellFormed inUse tidy packed soundPolyvalue insert join simplifiedFrom simplified tableBelow canonOver canon reduce select different together firstOf rowsFrom noItem noBook recordOn itemOn placeOf freePlace itemDepends someDepends someOn steps declines after afterAll declinedFrom run names touches needed kept remembered forget samePolyvalue sameItem zeroRecord zeroOpen soundBusy soundRecord soundDistrict soundPending soundRow soundItem soundAt soundOpen soundPlace sound computingOn waitingOn busyOn hearRecord concerned split reduceItem done goodOpening openedItem openedBook opened badStep badProgram outside results grant someBusy tooMany beginAnswer touchesDistrict beginItem begun begin readyAnswer readied ready giveUpAnswer giveUpItem gaveUp giveUp someNotReady completeAnswer decide complete hearAnswer hearItem heard hear bookOf leftOpen unsure twice told
 tests = record {
   one = refl;
   two = refl;

@@ -4,15 +4,16 @@ use mathlib.Core.Bool.{Bool, true, false, not, _||_, true≢false, false≢true}
 use Prim.Native.Nat.{ℕ, _≤_, _<_}
 use native.Mathlib.Omega.{arith}
 use lib.Dec.{eqb}
-use borrow.Author.Tests.{eq-eqb, ne-eqb, eqb-false, not-true}
+use borrow.Author.Tests.{eq-eqb, eqb-false, not-true}
 use Rattle.conditions.proofs.Laws.Below.{or-right, by-cases, any-none, any-of}
 use Rattle.book.specs.declared.Record.{Record}
 use Rattle.book.specs.declared.Open.{Open}
 use Rattle.book.specs.declared.Book.{Book}
 use Rattle.book.specs.Book.{noOpen, recordAt, itemAt, openAt, idle, recordOn, itemOn, isOpen, named, placeOf, itemDepends, someDepends, someOn}
-use Rattle.book.specs.Forget.{decided, needed, remembered, forget}
+use Rattle.book.specs.Forget.{decided, needed, kept, remembered, forget}
 use Rattle.book.specs.Sound.{Sound}
 use Rattle.book.proofs.Laws.Rows.{length-rows, getD-rows}
+use Rattle.book.proofs.Laws.Forget.{kept-needed}
 use Rattle.book.proofs.Laws.Sound.{place-named}
 use Rattle.book.specs.Shaped.{Shaped}
 use Rattle.book.proofs.Laws.But.{SoundBut, placeOf-kept, seen-same, district-stays, item-stays, on-busy, busy-on, but-sound}
@@ -31,21 +32,19 @@ module _ (w : ℕ) (b : Book) (s : SoundBut w b) (t : Shaped w b) where
   unfolding forget
   after q h = getD-rows (remembered w b) noOpen w (b .«open») q h (omega (arith, t .places))
 
-  -- a place stays, or is freed as nobody needs it
+  -- a place is kept, or freed as nobody needs it
   data Fate (q : ℕ) : Type 0 where
-    stays : openAt c q ≡ openAt b q → (decided (openAt b q) ≡ true → needed w b q (openAt b q) ≡ true) → Fate q
+    stays : openAt c q ≡ openAt b q → kept w b q (openAt b q) ≡ true → Fate q
     freed : openAt c q ≡ noOpen → needed w b q (openAt b q) ≡ false → Fate q
 
   fate : (q : ℕ) → q < w → Fate q
-  unfolding remembered
+  unfolding remembered kept
   fate q h =
-      by-cases (decided (openAt b q))
-      (λ d. by-cases (needed w b q (openAt b q))
-      (λ n. stays (after q h ∙ rw (d, n)) (λ e. n))
-      (λ n. freed (after q h ∙ rw (d, n)) n))
-      (λ d. stays (after q h ∙ rw d) (λ e. absurd (true≢false (sym e ∙ d))))
+      by-cases (kept w b q (openAt b q))
+      (λ k. stays (after q h ∙ rw k) k)
+      (λ k. freed (after q h ∙ rw k) (or-right (not (decided (openAt b q))) _ k))
 
-  still : (q : ℕ) → Fate q → isOpen (openAt c q) ≡ true → (openAt c q ≡ openAt b q) × (decided (openAt b q) ≡ true → needed w b q (openAt b q) ≡ true)
+  still : (q : ℕ) → Fate q → isOpen (openAt c q) ≡ true → (openAt c q ≡ openAt b q) × (kept w b q (openAt b q) ≡ true)
   still q (stays e n) k = (e, n)
   still q (freed e n) k = absurd (false≢true (rw e at k))
 
@@ -54,12 +53,9 @@ module _ (w : ℕ) (b : Book) (s : SoundBut w b) (t : Shaped w b) where
   forget-open q h k = still q (fate q h) k .0
 
   -- "a decided transaction is closed .. exactly when no district is on it and no held or pending polyvalue depends on it"
-  pub forget-is-open : (q : ℕ) → q < w → isOpen (openAt b q) ≡ true → isOpen (openAt (forget w b) q) ≡ (not (decided (openAt b q)) || needed w b q (openAt b q))
+  pub forget-is-open : (q : ℕ) → q < w → isOpen (openAt b q) ≡ true → isOpen (openAt (forget w b) q) ≡ kept w b q (openAt b q)
   unfolding remembered
-  forget-is-open q h k =
-      rw (after q h) (by-cases (decided (openAt b q))
-      (λ d. rw d (by-cases (needed w b q (openAt b q)) (λ n. rw n k) (λ n. rw n)))
-      (λ d. rw d k))
+  forget-is-open q h k = rw (after q h) (by-cases (kept w b q (openAt b q)) (λ n. rw n k) (λ n. rw n))
 
   gone : (q : ℕ) → Fate q → q < w → isOpen (openAt c q) ≡ false → (openAt c q ≡ noOpen) × ((i : ℕ) → i < b .count → itemDepends w (itemAt b i) q ≡ false)
   unfolding needed someDepends
@@ -127,6 +123,4 @@ module _ (w : ℕ) (b : Book) (s : SoundBut w b) (t : Shaped w b) where
   -- "a decided transaction is closed, and its place freed, exactly when no district is on it and no held or pending polyvalue depends on it": those left are needed
   pub forget-makes-sound : Sound w (forget w b)
   unfolding forget needed someOn someDepends
-  forget-makes-sound = but-sound w c forget-but (λ q h k l.
-      let e = still q (fate q h) k in
-      rw (e .0) (e .1 (ap not (ne-eqb (openAt b q .decision) 0 (λ z. omega (arith, ap (λ (o : Open). o .decision) (e .0)))))))
+  forget-makes-sound = but-sound w c forget-but (λ q h k l. let e = still q (fate q h) k in rw (e .0) (kept-needed w b q (openAt b q) (e .1) (rw (e .0) at l)))

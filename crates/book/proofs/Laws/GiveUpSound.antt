@@ -3,9 +3,9 @@ use mathlib.Core.Path.{_≡_, refl, sym, _∙_, ap}
 use mathlib.Core.Bool.{Bool, true, false, cond, true≢false, and-true}
 use Prim.Native.Nat.{ℕ, _≤_, _<_}
 use native.Mathlib.Omega.{arith}
-use lib.Dec.{eqb, ltb}
+use lib.Dec.{eqb}
 use lib.ListN.{length, length-set}
-use borrow.Author.Tests.{eqb-true, ne-eqb, ltb-true, ltb-false}
+use borrow.Author.Tests.{eqb-true, ne-eqb}
 use Rattle.conditions.proofs.Laws.Below.{by-cases}
 use Rattle.book.specs.declared.Record.{Record}
 use Rattle.book.specs.declared.Item.{Item}
@@ -16,7 +16,7 @@ use Rattle.book.specs.Records.{computingOn, busyOn}
 use Rattle.book.specs.Items.{there, concerned, drop, split}
 use Rattle.book.specs.GiveUp.{giveUpItem, marked, gaveUp}
 use Rattle.book.specs.Sound.{Sound}
-use Rattle.book.proofs.Laws.Rows.{length-rows, past-rows, getD-set}
+use Rattle.book.proofs.Laws.Rows.{length-rows, past-rows, each-row, getD-set}
 use Rattle.book.proofs.Laws.Sound.{place-named}
 use Rattle.book.proofs.Laws.Including.{including-other, including-lt}
 use Rattle.book.specs.Shaped.{ShapedItem, Shaped}
@@ -81,16 +81,18 @@ module _ (w : ℕ) (b : Book) (sound : Sound w b) (t : Shaped w b) (n d : ℕ) (
     gave = including-lt (b .districts) (o .gave) d (sound .fewDistricts) (old .gave) l;
     decisions = old .decisions;
     given = old .given;
-    apart = λ f h k.
-        by-cases (eqb f d)
-        (λ m. absurd (true≢false (sym k ∙ rw (eqb-true f d m) (was .computingNotReady (computing-on n r e .0)))))
-        (λ m. including-other (o .gave) d f (few f h) m ∙ old .apart f h k);
-    readyTouched = old .readyTouched;
-    gaveTouched = λ f h k.
-        by-cases (eqb f d)
-        (λ m. rw (eqb-true f d m) (was .busyTouched (busy-is n r on .0)))
-        (λ m. old .gaveTouched f h (sym (including-other (o .gave) d f (few f h) m) ∙ k));
-    completedReady = old .completedReady;
+    sets = λ f h. record {
+      apart = λ k.
+          by-cases (eqb f d)
+          (λ m. absurd (true≢false (sym k ∙ rw (eqb-true f d m) (was .computingNotReady (computing-on n r e .0)))))
+          (λ m. including-other (o .gave) d f (few f h) m ∙ old .sets f h .apart k);
+      readyTouched = old .sets f h .readyTouched;
+      gaveTouched = λ k.
+          by-cases (eqb f d)
+          (λ m. rw (eqb-true f d m) (was .busyTouched (busy-is n r on .0)))
+          (λ m. old .sets f h .gaveTouched (sym (including-other (o .gave) d f (few f h) m) ∙ k));
+      completedReady = old .sets f h .completedReady;
+    };
   }
 
   row : OpenRow (b .districts) (b .last .0) new
@@ -198,15 +200,11 @@ module _ (w : ℕ) (b : Book) (sound : Sound w b) (t : Shaped w b) (n d : ℕ) (
       (λ z. rw z (record { held = a .held; pending = a .held }))
       (λ z. rw z (split-shaped w (b .districts) m u x f q))
 
-  shapedAt : (i : ℕ) → i < mostItems → ShapedItem (itemAt c i)
-  shapedAt i h =
+  itemShaped : (i : ℕ) → i < b .count → ShapedItem (giveUpItem w b n d q early (itemAt b i))
+  itemShaped i h =
       let x : Item = itemAt b i in
-      by-cases (ltb i (b .count))
-      (λ k. let a : i < b .count = ltb-true i (b .count) k in
-      by-cases (there d x)
-      (λ z. rw (give-up-item w b sound t n d i a, itemThere x z) (settledShaped _ _ x (s .items i a) (t .rows i h)))
-      (λ z. rw (give-up-item w b sound t n d i a, itemElse x z) (t .rows i h)))
-      (λ k. rw (past i (ltb-false i (b .count) k)) (t .rows i h))
+      let old : ShapedItem x = t .rows i (omega (arith, sound .fewItems)) in
+      by-cases (there d x) (λ z. rw (itemThere x z) (settledShaped _ _ x (s .items i h) old)) (λ z. rw (itemElse x z) old)
 
   lengthOpen : length (c .«open») ≡ w
   unfolding gaveUp
@@ -218,5 +216,5 @@ module _ (w : ℕ) (b : Book) (sound : Sound w b) (t : Shaped w b) (n d : ℕ) (
     records = length-set (b .records) d _ ∙ t .records;
     items = length-rows (λ i x. giveUpItem w b n d q early x) voidItem (b .count) (b .items) ∙ t .items;
     places = lengthOpen;
-    rows = shapedAt;
+    rows = each-row (λ i x. giveUpItem w b n d q early x) voidItem ShapedItem (b .count) mostItems (b .items) (omega (arith, t .items)) (t .rows) itemShaped;
   }

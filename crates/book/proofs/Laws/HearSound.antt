@@ -3,9 +3,9 @@ use mathlib.Core.Path.{_≡_, refl, sym, _∙_}
 use mathlib.Core.Bool.{Bool, true, false, cond, true≢false}
 use Prim.Native.Nat.{ℕ, _≤_, _<_}
 use native.Mathlib.Omega.{arith}
-use lib.Dec.{eqb, ltb}
+use lib.Dec.{eqb}
 use lib.ListN.{length-set}
-use borrow.Author.Tests.{eqb-true, ne-eqb, ltb-true, ltb-false}
+use borrow.Author.Tests.{eqb-true, ne-eqb}
 use Rattle.conditions.proofs.Laws.Below.{by-cases}
 use Rattle.book.specs.declared.Record.{Record}
 use Rattle.book.specs.declared.Item.{Item}
@@ -15,7 +15,7 @@ use Rattle.book.specs.Records.{busyOn, hearRecord}
 use Rattle.book.specs.Items.{there, concerned, install, drop, reduceItem}
 use Rattle.book.specs.Hear.{outcome, hearItem, heard}
 use Rattle.book.specs.Sound.{Sound}
-use Rattle.book.proofs.Laws.Rows.{length-rows, past-rows, getD-set}
+use Rattle.book.proofs.Laws.Rows.{length-rows, past-rows, each-row, getD-set}
 use Rattle.book.proofs.Laws.Sound.{place-named}
 use Rattle.book.specs.Shaped.{ShapedItem, Shaped}
 use Rattle.book.proofs.Laws.Values.{hear-item}
@@ -156,15 +156,12 @@ module _ (w : ℕ) (b : Book) (sound : Sound w b) (t : Shaped w b) (n d : ℕ) (
         freeUnused = freeUnused;
       })
 
-  shapedAt : (i : ℕ) → i < mostItems → ShapedItem (itemAt c i)
-  shapedAt i h =
+  itemShaped : (i : ℕ) → i < b .count → ShapedItem (hearItem w b n d q completed (itemAt b i))
+  itemShaped i h =
       let x : Item = itemAt b i in
-      by-cases (ltb i (b .count))
-      (λ k. let a : i < b .count = ltb-true i (b .count) k in
       by-cases (there d x)
-      (λ z. rw (hear-item w b sound t n d i a, itemThere x z) (reduce-shaped w (b .districts) _ _ (settled x) (settledRow x z (s .items i a)) q completed))
-      (λ z. rw (hear-item w b sound t n d i a, itemElse x z) (t .rows i h)))
-      (λ k. rw (past i (ltb-false i (b .count) k)) (t .rows i h))
+      (λ z. rw (itemThere x z) (reduce-shaped w (b .districts) _ _ (settled x) (settledRow x z (s .items i h)) q completed))
+      (λ z. rw (itemElse x z) (t .rows i (omega (arith, sound .fewItems))))
 
   pub hear-shaped : Shaped w (heard w b n d)
   unfolding heard
@@ -172,5 +169,5 @@ module _ (w : ℕ) (b : Book) (sound : Sound w b) (t : Shaped w b) (n d : ℕ) (
     records = length-set (b .records) d _ ∙ t .records;
     items = length-rows (λ i x. hearItem w b n d q completed x) voidItem (b .count) (b .items) ∙ t .items;
     places = t .places;
-    rows = shapedAt;
+    rows = each-row (λ i x. hearItem w b n d q completed x) voidItem ShapedItem (b .count) mostItems (b .items) (omega (arith, t .items)) (t .rows) itemShaped;
   }

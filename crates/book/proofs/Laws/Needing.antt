@@ -21,7 +21,7 @@ use Rattle.book.specs.declared.Book.{Book}
 use Rattle.book.specs.Book.{mostDistricts, mostItems, noRecord, noOpen, voidItem, recordAt, itemAt, openAt, recordOn, placeOf, freePlace, itemDepends, someDepends, someOn, withOpen, openOf}
 use Rattle.book.specs.Programs.{touches}
 use Rattle.book.specs.Records.{computingOn, beginRecord, readyRecord}
-use Rattle.book.specs.Forget.{decided, needed, remembered, forget}
+use Rattle.book.specs.Forget.{needed, kept, remembered, forget}
 use Rattle.book.specs.Ready.{reported, readied}
 use Rattle.book.specs.Decide.{withDecision, decide}
 use Rattle.book.specs.Begin.{someBusy, touchesDistrict, beginItem, begun}
@@ -29,7 +29,7 @@ use Rattle.book.specs.Sound.{Sound}
 use Rattle.book.proofs.Laws.Rows.{getD-rows, rows-set, getD-set}
 use Rattle.book.proofs.Laws.Touched.{touched-item-idle, touched-idle}
 use Rattle.book.proofs.Laws.But.{computing-on, busy-on}
-use Rattle.book.proofs.Laws.Forget.{remembered-stays, forget-none, decided-open, decided-needed}
+use Rattle.book.proofs.Laws.Forget.{kept-needed, needed-kept, remembered-kept, forget-none, decided-open, sound-kept}
 
 -- one row is set: what is the same of it is the same of every row
 set-alike : {A B : Type 0} (f : A → B) (xs : List A) (i : ℕ) (y z : A) → f y ≡ f (getD xs i z) → (j : ℕ) → f (getD (set xs i y) j z) ≡ f (getD xs j z)
@@ -53,14 +53,13 @@ module _ (w : ℕ) (b : Book) (n d : ℕ) (s : Sound w b) (on : computingOn n (r
       set-alike recordOn (b .records) d (readyRecord (recordAt b d)) noRecord
       (busy-on (readyRecord (recordAt b d)) refl ∙ sym (busy-on (recordAt b d) (ap (λ (v : ℕ). eqb v 0) (computing-on n (recordAt b d) on .0))))
 
-  same : (q : ℕ) → needed w (readied w b n d) q (openAt (readied w b n d) q) ≡ needed w b q (openAt b q)
-  unfolding needed someOn someDepends readied
-  same q = λ k. any (b .districts) (λ e. eqb (stays e k) (number q k)) || any (b .count) (λ i. itemDepends w (itemAt b i) q)
+  same : (q : ℕ) → kept w (readied w b n d) q (openAt (readied w b n d) q) ≡ kept w b q (openAt b q)
+  unfolding kept needed someOn someDepends readied
+  same q = λ k. not (not (eqb (decision q k) 0)) || (any (b .districts) (λ e. eqb (stays e k) (number q k)) || any (b .count) (λ i. itemDepends w (itemAt b i) q))
 
   -- a district that reports ready stays on its transaction
   pub ready-forgets-none : forget w (readied w b n d) ≡ readied w b n d
-  ready-forgets-none =
-      forget-none w (readied w b n d) (λ q l e. same q ∙ decided-needed w b s q l (ap (λ (v : ℕ). not (eqb v 0)) (sym (decision q)) ∙ e))
+  ready-forgets-none = forget-none w (readied w b n d) (λ q l. same q ∙ sound-kept w b s q l)
 
 -- ---- begin
 
@@ -84,12 +83,12 @@ module _ (w : ℕ) (b : Book) (xs : List Step) (s : Sound w b) (idles : someBusy
   c = begun w b xs
 
   -- the new transaction is not decided
-  old : (q : ℕ) → decided (openAt c q) ≡ true → openAt c q ≡ openAt b q
+  old : (q : ℕ) → 1 ≤ openAt c q .decision → openAt c q ≡ openAt b q
   unfolding begun
   old q e =
       let row = getD-set (b .«open») (freePlace w b) _ noOpen q (omega (arith, place, places)) in
       by-cases (eqb q (freePlace w b))
-      (λ k. absurd (false≢true (rw (row, k) at e)))
+      (λ k. absurd (omega (arith, rw (row, k) at e)))
       (λ k. row ∙ rw k)
 
   -- a touched district was on none, the others stay on theirs
@@ -116,32 +115,33 @@ module _ (w : ℕ) (b : Book) (xs : List Step) (s : Sound w b) (idles : someBusy
 
   pub begin-forgets-none : forget w (begun w b xs) ≡ begun w b xs
   unfolding needed
-  begin-forgets-none = forget-none w c (λ q l e.
-      let was : decided (openAt b q) ≡ true = rw (old q e) at e in
+  begin-forgets-none = forget-none w c (λ q l. needed-kept w c q (openAt c q) (λ e.
+      let was : 1 ≤ openAt b q .decision = rw (old q e) at e in
       let n : ℕ = openAt b q .number .0 in
       let given : 1 ≤ n = omega (arith, eqb-false n 0 (not-true _ (decided-open w b s q l was))) in
-      rw (old q e) (or-still (someOn b n) (someDepends w b q) (someOn c n) (someDepends w c q) (on n given) (dependsStill q) (decided-needed w b s q l was)))
+      rw (old q e) (or-still (someOn b n) (someDepends w b q) (someOn c n) (someDepends w c q) (on n given) (dependsStill q) (kept-needed w b q (openAt b q) (sound-kept w b s q l) was))))
 
 -- ---- decide
 
 module _ (w : ℕ) (b : Book) (n v : ℕ) (s : Sound w b) (place : placeOf w b n < w) (decides : 1 ≤ v) where
   -- every other transaction stays, as it was needed or is not decided
   decide-forgets-own : forget w (decide w b n v) ≡ withOpen b (set (b .«open») (placeOf w b n) (remembered w b (placeOf w b n) (withDecision v (openOf w b n))))
-  unfolding forget decide remembered needed someOn someDepends
+  unfolding forget decide remembered kept needed someOn someDepends
   decide-forgets-own =
       ap (withOpen b) (rows-set (remembered w b) noOpen w (b .«open») (placeOf w b n) (withDecision v (openOf w b n)) place
-      (λ q l. remembered-stays w b q (openAt b q) (decided-needed w b s q l)))
+      (λ q l. remembered-kept w b q (openAt b q) (sound-kept w b s q l)))
 
   -- it stays itself where it is needed
   pub decide-keeps : {q : ℕ} → q ≡ placeOf w b n → needed w b q (openAt b q) ≡ true → withOpen b (set (b .«open») q (withDecision v (openAt b q))) ≡ forget w (decide w b n v)
   unfolding needed
   decide-keeps e k =
-      let kept : remembered w b (placeOf w b n) (withDecision v (openOf w b n)) ≡ withDecision v (openOf w b n) = remembered-stays w b (placeOf w b n) (withDecision v (openOf w b n)) (λ d. rw e at k) in
-      rw e (sym (decide-forgets-own ∙ ap (λ (o : Open). withOpen b (set (b .«open») (placeOf w b n) o)) kept))
+      let new : Open = withDecision v (openOf w b n) in
+      let stays = remembered-kept w b (placeOf w b n) new (needed-kept w b (placeOf w b n) new (λ d. rw e at k)) in
+      rw e (sym (decide-forgets-own ∙ ap (λ (o : Open). withOpen b (set (b .«open») (placeOf w b n) o)) stays))
 
   -- and is closed, though the decision was noted, where it is not
   pub decide-frees : (o : Open) {q : ℕ} → q ≡ placeOf w b n → needed w b q (openAt b q) ≡ false → withOpen b (set (set (b .«open») q o) q noOpen) ≡ forget w (decide w b n v)
-  unfolding remembered needed
+  unfolding remembered kept needed
   decide-frees o {q} e k =
       let freed : remembered w b (placeOf w b n) (withDecision v (openOf w b n)) ≡ noOpen = rw (ne-eqb v 0 (λ z. omega arith), rw e at k) in
       rw (set-set (b .«open») q o noOpen, e) (sym (decide-forgets-own ∙ ap (λ (o : Open). withOpen b (set (b .«open») (placeOf w b n) o)) freed))

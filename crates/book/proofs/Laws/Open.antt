@@ -12,8 +12,7 @@ use Rattle.conditions.specs.Sets.{digit}
 use Rattle.conditions.proofs.Laws.Below.{by-cases, none-any}
 use Rattle.polyvalues.specs.Values.{inRange, equal}
 use Rattle.polyvalues.specs.Pairs.{depends, certain}
-use Rattle.polyvalues.specs.Polyvalues.{mostPairs, inUse, packed}
-use Rattle.polyvalues.specs.Polyvalues.{sound as soundPolyvalue}
+use Rattle.polyvalues.specs.Polyvalues.{mostPairs, inUse, packed, sound as soundPolyvalue}
 use Rattle.polyvalues.specs.Operations.{different, together}
 use Rattle.polyvalues.proofs.Laws.Canon.{certain-canon}
 use Rattle.polyvalues.proofs.Laws.Depends.{free-canon}

@@ -75,19 +75,21 @@ module _ (w : ℕ) (b : Book) (s : SoundBut w b) (t : Shaped w b) (n d : ℕ) (p
     gave = old .gave;
     decisions = old .decisions;
     given = old .given;
-    apart = λ e h k.
-        by-cases (eqb e d)
-        (λ m. rw (eqb-true e d m) (was .computingNotGave (computing-on n r on .0)))
-        (λ m. old .apart e h (sym (including-other (o .ready) d e (few e h) m) ∙ k));
-    readyTouched = λ e h k.
-        by-cases (eqb e d)
-        (λ m. rw (eqb-true e d m) (was .busyTouched busy))
-        (λ m. old .readyTouched e h (sym (including-other (o .ready) d e (few e h) m) ∙ k));
-    gaveTouched = old .gaveTouched;
-    completedReady = λ v e h k.
-        by-cases (eqb e d)
-        (λ m. rw (eqb-true e d m) (including-own (o .ready) d (few d l)))
-        (λ m. including-other (o .ready) d e (few e h) m ∙ old .completedReady v e h k);
+    sets = λ e h. record {
+      apart = λ k.
+          by-cases (eqb e d)
+          (λ m. rw (eqb-true e d m) (was .computingNotGave (computing-on n r on .0)))
+          (λ m. old .sets e h .apart (sym (including-other (o .ready) d e (few e h) m) ∙ k));
+      readyTouched = λ k.
+          by-cases (eqb e d)
+          (λ m. rw (eqb-true e d m) (was .busyTouched busy))
+          (λ m. old .sets e h .readyTouched (sym (including-other (o .ready) d e (few e h) m) ∙ k));
+      gaveTouched = old .sets e h .gaveTouched;
+      completedReady = λ v k.
+          by-cases (eqb e d)
+          (λ m. rw (eqb-true e d m) (including-own (o .ready) d (few d l)))
+          (λ m. including-other (o .ready) d e (few e h) m ∙ old .sets e h .completedReady v k);
+    };
   }
 
   -- ---- districts

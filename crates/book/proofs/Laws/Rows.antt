@@ -4,10 +4,10 @@ use mathlib.Core.Bool.{cond}
 use mathlib.Core.List.{List, [], _∷_}
 use Prim.Native.Nat.{ℕ, zero, suc, _+_, _≤_, _<_}
 use native.Mathlib.Omega.{arith}
-use lib.Dec.{eqb}
+use lib.Dec.{eqb, ltb}
 use lib.ListN.{length, getD, set}
 use lib.Seq.{getD-set-same, getD-set-other}
-use borrow.Author.Tests.{eqb-true, eqb-false}
+use borrow.Author.Tests.{eqb-true, eqb-false, ltb-true, ltb-false}
 use Rattle.conditions.proofs.Laws.Below.{by-cases}
 use Rattle.book.specs.Rows.{rowsFrom, rows}
 
@@ -76,6 +76,14 @@ module _ {A : Type 0} (f : ℕ → A → A) (z : A) where
   -- a row from n on
   pub past-rows : (n : ℕ) (xs : List A) (i : ℕ) → n ≤ i → getD (rows f n xs) i z ≡ getD xs i z
   past-rows n xs i h = past-from 0 n xs i h
+
+  -- what holds of each row and of each changed one holds of each row afterwards
+  pub each-row : (P : A → Type 0) (n m : ℕ) (xs : List A) → m ≤ length xs → ((i : ℕ) → i < m → P (getD xs i z))
+      → ((i : ℕ) → i < n → P (f i (getD xs i z))) → (i : ℕ) → i < m → P (getD (rows f n xs) i z)
+  each-row P n m xs l each changed i h =
+      by-cases (ltb i n)
+      (λ k. rw (getD-rows n xs i (ltb-true i n k) (omega arith)) (changed i (ltb-true i n k)))
+      (λ k. rw (past-rows n xs i (ltb-false i n k)) (each i h))
 
   -- one turn of a loop
   pub set-rows : (n : ℕ) (xs : List A) → n < length xs → set (rows f n xs) n (f n (getD xs n z)) ≡ rows f (suc n) xs

@@ -6,8 +6,7 @@ use native.Mathlib.Omega.{arith}
 use borrow.Author.Tests.{eqb-true, eq-eqb, ne-eqb}
 use Rattle.conditions.proofs.Laws.Below.{or-left, or-right, by-cases}
 use Rattle.polyvalues.specs.Pairs.{depends}
-use Rattle.polyvalues.specs.Polyvalues.{inUse, WellFormed}
-use Rattle.polyvalues.specs.Polyvalues.{sound as soundPolyvalue}
+use Rattle.polyvalues.specs.Polyvalues.{inUse, WellFormed, sound as soundPolyvalue}
 use Rattle.polyvalues.specs.Operations.{reduce, select}
 use Rattle.polyvalues.proofs.Laws.WellFormed.{reduce-well-formed, select-well-formed}
 use Rattle.polyvalues.proofs.Laws.Operations.{reduce-depends-not, select-depends-not}

@@ -8,18 +8,18 @@ use borrow.Author.Tests.{ltb-true, leb-true, eqb-true, eqb-false, ltb-false, not
 use Rattle.conditions.specs.Below.{all}
 use Rattle.conditions.specs.Sets.{member}
 use Rattle.conditions.proofs.Laws.Below.{and-left, and-right, by-cases, all-at, all-of, any-none, first-passes}
-use Rattle.polyvalues.specs.Polyvalues.{mostPairs, inUse}
-use Rattle.polyvalues.specs.Polyvalues.{sound as soundPolyvalue}
+use Rattle.polyvalues.specs.Polyvalues.{mostPairs, inUse, sound as soundPolyvalue}
 use Rattle.polyvalues.specs.Operations.{together}
 use Rattle.book.specs.declared.Record.{Record}
 use Rattle.book.specs.declared.Item.{Item}
 use Rattle.book.specs.declared.Open.{Open}
 use Rattle.book.specs.declared.Book.{Book}
 use Rattle.book.specs.Book.{mostDistricts, mostItems, lastNumber, noItem, recordAt, itemAt, openAt, idle, waiting, itemOn, isOpen, named, placeOf, recordOn, itemDepends, someDepends, openOf}
-use Rattle.book.specs.Forget.{decided, needed}
+use Rattle.book.specs.Forget.{kept}
 use Rattle.book.specs.Sound.{Sound}
 use Rattle.book.specs.SoundTest.{zeroOpen, soundBusy, soundRecord, soundDistrict, soundPending, soundRow, soundItem, soundAt, soundOpen, soundPlace, sound}
-use Rattle.book.proofs.Laws.But.{DistrictRow, ItemRow, OpenRow, sound-but, but-sound}
+use Rattle.book.proofs.Laws.But.{DistrictRow, ItemRow, SetsAt, OpenRow, sound-but, but-sound}
+use Rattle.book.proofs.Laws.Forget.{kept-needed, needed-kept}
 use Rattle.book.proofs.Laws.Same.{three, five, eight, same-polyvalue, polyvalue-same, same-item, item-same, zero-record, record-zero, zero-open, open-zero}
 
 -- a test of two cases, in the case that holds
@@ -100,13 +100,7 @@ row-test w b x f =
 
 -- ---- places
 
-record At (o : Open) (d : ℕ) : Type 0 where
-  apart : member (o .ready) d ≡ true → member (o .gave) d ≡ false
-  ready : member (o .ready) d ≡ true → member (o .touched) d ≡ true
-  gave : member (o .gave) d ≡ true → member (o .touched) d ≡ true
-  completed : o .decision ≡ 1 → member (o .touched) d ≡ true → member (o .ready) d ≡ true
-
-test-at : (o : Open) (d : ℕ) → soundAt o d ≡ true → At o d
+test-at : (o : Open) (d : ℕ) → soundAt o d ≡ true → SetsAt o d
 unfolding soundAt
 test-at o d e =
     let r = member (o .ready) d in
@@ -115,29 +109,29 @@ test-at o d e =
     let t = three (cond r (not g && u) true) (cond g u true) (cond (eqb (o .decision) 1 && u) r true) e in
     record {
       apart = λ h. not-true g (and-left (not g) u (if-true r _ _ (t .0) h));
-      ready = λ h. and-right (not g) u (if-true r _ _ (t .0) h);
-      gave = λ h. if-true g _ _ (t .1) h;
-      completed = λ h k. if-true (eqb (o .decision) 1 && u) _ _ (t .2) (ap₂ _&&_ (eq-eqb (o .decision) 1 h) k);
+      readyTouched = λ h. and-right (not g) u (if-true r _ _ (t .0) h);
+      gaveTouched = λ h. if-true g _ _ (t .1) h;
+      completedReady = λ h k. if-true (eqb (o .decision) 1 && u) _ _ (t .2) (ap₂ _&&_ (eq-eqb (o .decision) 1 h) k);
     }
 
-at-test : (o : Open) (d : ℕ) → At o d → soundAt o d ≡ true
+at-test : (o : Open) (d : ℕ) → SetsAt o d → soundAt o d ≡ true
 unfolding soundAt
 at-test o d f =
     let r = member (o .ready) d in
     let g = member (o .gave) d in
     let u = member (o .touched) d in
     ap₂ _&&_ (ap₂ _&&_
-    (if-both r _ _ (λ h. ap₂ _&&_ (ap not (f .apart h)) (f .ready h)) (λ h. refl))
-    (if-both g _ _ (λ h. f .gave h) (λ h. refl)))
+    (if-both r _ _ (λ h. ap₂ _&&_ (ap not (f .apart h)) (f .readyTouched h)) (λ h. refl))
+    (if-both g _ _ (λ h. f .gaveTouched h) (λ h. refl)))
     (if-both (eqb (o .decision) 1 && u) _ _
-    (λ h. f .completed (eqb-true (o .decision) 1 (and-left (eqb (o .decision) 1) u h)) (and-right (eqb (o .decision) 1) u h))
+    (λ h. f .completedReady (eqb-true (o .decision) 1 (and-left (eqb (o .decision) 1) u h)) (and-right (eqb (o .decision) 1) u h))
     (λ h. refl))
 
 -- the open transaction o at place q
 record Used (w : ℕ) (b : Book) (q : ℕ) (o : Open) : Type 0 where
   row : OpenRow (b .districts) (b .last .0) o
   differ : (p : ℕ) → p < q → openAt b p .number .0 ≡ o .number .0 → ⊥
-  needs : 1 ≤ o .decision → needed w b q o ≡ true
+  stays : kept w b q o ≡ true
 
 test-open : (w : ℕ) (b : Book) (q : ℕ) (o : Open) → soundOpen w b q o ≡ true → Used w b q o
 unfolding soundOpen
@@ -145,8 +139,7 @@ test-open w b q o e =
     let apart : ℕ → Bool = λ p. not (eqb (openAt b p .number .0) (o .number .0)) in
     let n = 2 ^ b .districts in
     let t = eight (ltb (o .touched) n) (ltb (o .ready) n) (ltb (o .gave) n) (leb (o .decision) 2) (all q apart) (leb (o .number .0) (b .last .0))
-    (cond (decided o) (needed w b q o) true) (all (b .districts) (soundAt o)) e in
-    let at : (d : ℕ) → d < b .districts → At o d = λ d h. test-at o d (all-at (b .districts) (soundAt o) (t .7) d h) in
+    (kept w b q o) (all (b .districts) (soundAt o)) e in
     record {
       row = record {
         touched = ltb-true (o .touched) n (t .0);
@@ -154,13 +147,10 @@ test-open w b q o e =
         gave = ltb-true (o .gave) n (t .2);
         decisions = leb-true (o .decision) 2 (t .3);
         given = leb-true (o .number .0) (b .last .0) (t .5);
-        apart = λ d h. at d h .apart;
-        readyTouched = λ d h. at d h .ready;
-        gaveTouched = λ d h. at d h .gave;
-        completedReady = λ c d h. at d h .completed c;
+        sets = λ d h. test-at o d (all-at (b .districts) (soundAt o) (t .7) d h);
       };
       differ = λ p h. eqb-false (openAt b p .number .0) (o .number .0) (not-true _ (all-at q apart (t .4) p h));
-      needs = λ h. if-true (decided o) _ _ (t .6) (ap not (ne-eqb (o .decision) 0 (λ z. omega arith)));
+      stays = t .6;
     }
 
 open-test : (w : ℕ) (b : Book) (q : ℕ) (o : Open) → Used w b q o → soundOpen w b q o ≡ true
@@ -175,8 +165,8 @@ open-test w b q o f =
     (le-leb (o .decision) 2 (r .decisions)))
     (all-of q (λ p. not (eqb (openAt b p .number .0) (o .number .0))) (λ p h. ap not (ne-eqb (openAt b p .number .0) (o .number .0) (f .differ p h)))))
     (le-leb (o .number .0) (b .last .0) (r .given)))
-    (if-both (decided o) _ _ (λ h. f .needs (omega (arith, eqb-false (o .decision) 0 (not-true _ h)))) (λ h. refl)))
-    (all-of (b .districts) (soundAt o) (λ d h. at-test o d (record { apart = r .apart d h; ready = r .readyTouched d h; gave = r .gaveTouched d h; completed = λ c. r .completedReady c d h })))
+    (f .stays))
+    (all-of (b .districts) (soundAt o) (λ d h. at-test o d (r .sets d h)))
 
 -- ---- the book
 
@@ -206,7 +196,7 @@ test-sound w b e =
       free = λ q h k. zero-open (openAt b q) (and-left (zeroOpen (openAt b q)) _ (vacant q h k));
       freeUnused = λ q h k. any-none (b .count) (λ i. itemDepends w (itemAt b i) q) (not-true _ (and-right (zeroOpen (openAt b q)) _ (vacant q h k)));
     })
-    (λ q h k. used q h k .needs)
+    (λ q h k. kept-needed w b q (openAt b q) (used q h k .stays))
 
 pub sound-test : (w : ℕ) (b : Book) → Sound w b → sound w b ≡ true
 unfolding sound soundDistrict soundItem soundPlace
@@ -228,7 +218,7 @@ sound-test w b s =
     (λ e. item-same (itemAt b i) noItem (s .pastItems i l (omega (arith, ltb-false i (b .count) e)))))))
     (all-of w (soundPlace w b) (λ q l.
     if-both (isOpen (openAt b q)) _ _
-    (λ e. open-test w b q (openAt b q) (record { row = t .opens q l e; differ = s .differ q l e; needs = s .decidedNeeded q l e }))
+    (λ e. open-test w b q (openAt b q) (record { row = t .opens q l e; differ = s .differ q l e; stays = needed-kept w b q (openAt b q) (s .decidedNeeded q l e) }))
     (λ e. ap₂ _&&_ (open-zero (openAt b q) (s .free q l e)) (ap not (s .freeUnused q l e)))))
 
 -- ---- what a sound book is read by

@@ -1,7 +1,6 @@
 -- The loop's invariant: the bytes that wait are within the buffer.
-use mathlib.Core.Path.{sym}
+use mathlib.Core.Path.{sym, _≡_}
 use lib.Seq.{length-take-le}
-use mathlib.Core.Path.{_≡_}
 use Prim.Native.Nat.{_≤_, _<_, _-_, _^_}
 use native.Mathlib.Omega.{arith}
 use lib.ListN.{length}

@@ -5,11 +5,10 @@ use mathlib.Core.List.{List, [], _∷_}
 use Prim.Native.Nat.{ℕ}
 use lib.Dec.{eqb}
 use borrow.Author.Tests.{eqb-true}
-use Rattle.conditions.specs.Places.{places}
+use Rattle.conditions.specs.Places.{places, withPlace}
 use Rattle.conditions.proofs.Laws.Below.{and-left, and-right}
 use Rattle.conditions.specs.Below.{all, any, first, those}
 use Rattle.conditions.specs.Sets.{setOf, odd, member}
-use Rattle.conditions.specs.Places.{withPlace}
 use Rattle.conditions.specs.Conditions.{full, union, intersection, complement, empty, lowest, completed, selected, reduced, dependsOn}
 use Rattle.conditions.specs.Products.{tagAt, allows, allowed, within, dropped, needed, prime, primes, primeFrom}
 use Rattle.conditions.specs.Text.{digits, decimal, prefixed, joined, tagText, tagsText, productText, conditionText}
@@ -24,7 +23,7 @@ use Rattle.book.specs.Answers.{firstOf}
 use Rattle.book.specs.Rows.{rowsFrom}
 use Rattle.book.specs.Book.{noItem, noBook, recordOn, itemOn, placeOf, freePlace, itemDepends, someDepends, someOn}
 use Rattle.book.specs.Programs.{steps, declines, after, afterAll, declinedFrom, run, names, touches}
-use Rattle.book.specs.Forget.{needed as neededBookForget, remembered, forget}
+use Rattle.book.specs.Forget.{needed as neededBookForget, kept, remembered, forget}
 use Rattle.book.specs.SoundTest.{samePolyvalue, sameItem, zeroRecord, zeroOpen, soundBusy, soundRecord, soundDistrict, soundPending, soundRow, soundItem, soundAt, soundOpen, soundPlace, sound as soundBookSoundTest}
 use Rattle.book.specs.Records.{computingOn, waitingOn, busyOn, hearRecord}
 use Rattle.book.specs.Items.{concerned, split, reduceItem}
@@ -59,7 +58,7 @@ same-text (b ∷ l) [] e = absurd (false≢true e)
 same-text (b ∷ l) (c ∷ m) e = ap₂ _∷_ (eqb-true b c (and-left (eqb b c) _ e)) (same-text l m (and-right (eqb b c) _ e))
 
 test : same (output places sample) samplePrinted ≡ true
-unfolding all any first those setOf odd member withPlace full union intersection complement empty lowest completed selected reduced dependsOn tagAt allows allowed within dropped needed prime primes primeFrom digits decimal prefixed joined tagText tagsText productText conditionText answer written inRange sum signed ofBytes valueText asked depends certain wellFormed inUse tidy sound packed fitted insert join simplifiedFrom simplified tableBelow canonOver canon reduce select different together pairText lineText firstOf rowsFrom noItem noBook recordOn itemOn placeOf freePlace itemDepends someDepends someOn steps declines after afterAll declinedFrom run names touches neededBookForget remembered forget samePolyvalue sameItem zeroRecord zeroOpen soundBusy soundRecord soundDistrict soundPending soundRow soundItem soundAt soundOpen soundPlace soundBookSoundTest computingOn waitingOn busyOn hearRecord concerned split reduceItem done goodOpening openedItem openedBook opened badStep badProgram outside results grant someBusy tooMany beginAnswer touchesDistrict beginItem begun begin readyAnswer readied ready giveUpAnswer giveUpItem gaveUp giveUp someNotReady completeAnswer abortAnswer decide complete abort hearAnswer hearItem heard hear heldLine showAnswer shown show repeat byte word part end program atDistrict onNumber ofItem fields event oneMore eventAt code districts value item itemMore items events sheet refused openedSheet openSheet line eventLine refusalLine endLine lineAnswer lineWritten ofShow eventResult played playedBuffer eventLines printed output
+unfolding all any first those setOf odd member withPlace full union intersection complement empty lowest completed selected reduced dependsOn tagAt allows allowed within dropped needed prime primes primeFrom digits decimal prefixed joined tagText tagsText productText conditionText answer written inRange sum signed ofBytes valueText asked depends certain wellFormed inUse tidy sound packed fitted insert join simplifiedFrom simplified tableBelow canonOver canon reduce select different together pairText lineText firstOf rowsFrom noItem noBook recordOn itemOn placeOf freePlace itemDepends someDepends someOn steps declines after afterAll declinedFrom run names touches neededBookForget kept remembered forget samePolyvalue sameItem zeroRecord zeroOpen soundBusy soundRecord soundDistrict soundPending soundRow soundItem soundAt soundOpen soundPlace soundBookSoundTest computingOn waitingOn busyOn hearRecord concerned split reduceItem done goodOpening openedItem openedBook opened badStep badProgram outside results grant someBusy tooMany beginAnswer touchesDistrict beginItem begun begin readyAnswer readied ready giveUpAnswer giveUpItem gaveUp giveUp someNotReady completeAnswer abortAnswer decide complete abort hearAnswer hearItem heard hear heldLine showAnswer shown show repeat byte word part end program atDistrict onNumber ofItem fields event oneMore eventAt code districts value item itemMore items events sheet refused openedSheet openSheet line eventLine refusalLine endLine lineAnswer lineWritten ofShow eventResult played playedBuffer eventLines printed output
 test = refl
 
 pub sample-printed : output places sample ≡ samplePrinted

@@ -1,7 +1,6 @@
 -- By the district's bit.
 use borrow.Author.Needs.{needs}
 use mathlib.Core.Path.{sym, _∙_}
-use borrow.Author.Needs.{needs}
 use Rattle.book.proofs.touched.begun_record.Statement.{statement}
 use Rattle.book.proofs.touched.begun_record.Tie as tie
 

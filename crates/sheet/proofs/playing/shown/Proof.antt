@@ -1,7 +1,6 @@
 -- The line that show wrote stands between its head and the line feed; the line of a refused show covers the head that was put.
 use native.Mathlib.Omega.{arith}
-use Rattle.conditions.proofs.Putting.{put-then}
-use Rattle.conditions.proofs.Putting.{put-length}
+use Rattle.conditions.proofs.Putting.{put-then, put-length}
 use Rattle.conditions.specs.Places.{places}
 use Rattle.sheet.proofs.Writing.{put-over, head-shorter, show-fits}
 use Rattle.sheet.proofs.Lent.{answer-lent, lent-refused, end-few, lent-put}

@@ -1,7 +1,6 @@
 -- The loop's invariant: what is left to read, after the events so far, tells all.
-use mathlib.Core.Path.{ap, _∙_}
+use mathlib.Core.Path.{ap, _∙_, _≡_}
 use Rattle.sheet.specs.Told.{toldEvent}
-use mathlib.Core.Path.{_≡_}
 use mathlib.Core.List.{List, []}
 use Prim.Native.Nat.{_≤_, _-_}
 use native.Mathlib.Omega.{arith}

@@ -1,7 +1,6 @@
 -- The loop's invariant: the items so far stand in the first rows, and what is left to read tells all.
-use mathlib.Core.Path.{refl, sym, ap, _∙_}
+use mathlib.Core.Path.{refl, sym, ap, _∙_, _≡_}
 use Rattle.sheet.proofs.Reading.{went-wrong, went-right}
-use mathlib.Core.Path.{_≡_}
 use mathlib.Core.List.{List, []}
 use Prim.Native.Nat.{_≤_, _-_}
 use native.Mathlib.Omega.{arith}
