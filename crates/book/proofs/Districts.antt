@@ -7,14 +7,11 @@ use native.Mathlib.Omega.{arith}
 use lib.Dec.{eqb}
 use lib.Bits.{bitOr, or-lt}
 use lib.Pow.{shl-exact}
-use borrow.Author.Tests.{eq-eqb, ne-eqb, eqb-true, eqb-false}
-use Rattle.conditions.proofs.Laws.Below.{by-cases}
 use Rattle.conditions.specs.Sets.{member}
 use Rattle.conditions.specs.Places.{withPlace}
 use Rattle.conditions.proofs.Laws.Sets.{member-none, member-or}
 use Rattle.conditions.proofs.Laws.Places.{place-lt, member-place, is-place, place-up}
 use Rattle.book.specs.Book.{mostDistricts, including}
-use Rattle.book.proofs.Laws.Including.{member-including}
 
 either : (x here none : Bool) → none ≡ false → (x || cond here true none) ≡ cond here true x
 either x true none e = or-true x
@@ -32,13 +29,3 @@ including-is s d l h =
     member-or s (withPlace mostDistricts 0 d true) j
     ∙ ap (λ (x : Bool). member s j || x) (member-place mostDistricts 0 d true j k)
     ∙ either (member s j) (eqb j d) (member 0 j) (member-none j)))
-
--- its districts are those of s, or d
-pub including-either : (s d e : ℕ) → e < mostDistricts → member (including s d) e ≡ (member s e || eqb d e)
-including-either s d e h = member-including s d e h ∙ by-cases (eqb d e) here other
-  where
-    here : eqb d e ≡ true → cond (eqb e d) true (member s e) ≡ (member s e || eqb d e)
-    here q = rw (q, eq-eqb e d (sym (eqb-true d e q))) (sym (or-true (member s e)))
-
-    other : eqb d e ≡ false → cond (eqb e d) true (member s e) ≡ (member s e || eqb d e)
-    other q = rw (q, ne-eqb e d (λ r. eqb-false d e q (sym r))) (sym (or-false (member s e)))

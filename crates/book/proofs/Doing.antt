@@ -2,7 +2,7 @@
 use mathlib.Core.Path.{_≡_}
 use mathlib.Core.Bool.{true}
 use Prim.Native.Nat.{ℕ, _≤_, _<_}
-use native.Mathlib.Omega.{arith}
+use native.Mathlib.Nat.{lt-of-lt-of-le}
 use Rattle.book.specs.declared.Answer.the-variants.{Accepted}
 use Rattle.book.specs.declared.Book.{Book}
 use Rattle.book.specs.declared.Done.{Done}
@@ -21,4 +21,4 @@ few w b s e d n = rw (e, d, n) (test-sound w b s .fewDistricts, test-sound w b s
 
 -- a district that there is has a row
 pub district-row : (w : ℕ) (b : Book) {d : ℕ} → sound w b ≡ true → d < b .districts → d < mostDistricts
-district-row w b s h = omega (arith, test-sound w b s .fewDistricts)
+district-row w b s h = lt-of-lt-of-le h (test-sound w b s .fewDistricts)

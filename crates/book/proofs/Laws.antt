@@ -25,5 +25,4 @@ pub mod GiveUpSound
 pub mod HearSound
 pub mod BeginSound
 pub mod Calls
-pub mod Events
 pub mod OpenedShaped

@@ -19,6 +19,7 @@ use Rattle.book.specs.declared.Answer.the-variants.{NoItem, BadProgram, 
 use Rattle.book.specs.declared.Begun.{Begun}
 use Rattle.book.specs.declared.Book.{Book}
 use Rattle.book.specs.declared.Item.{Item}
+use Rattle.book.specs.declared.Open.{Open}
 use Rattle.book.specs.declared.Step.{Step}
 use Rattle.book.specs.Answers.{accepted, firstOf}
 use Rattle.book.specs.Rows.{rows}
@@ -117,6 +118,10 @@ touchesDistrict b xs d = any (b .count) (λ i. touches xs i && eqb (itemAt b i .
 unfoldable pub beginItem : ℕ → Book → List Step → ℕ → Item → Item
 beginItem w b xs i x = let new : Item = becomes x (x .held) (packed (results w b xs i)) in cond (touches xs i) new x
 
+-- "An open transaction keeps its touched districts, those that reported ready, those that gave up before ready, and its decision": that of a program of these steps, as it begins
+abbrev pub newRow : Book → List Step → Open
+newRow b xs = record { number = record { 0 = suc (b .last .0) }; touched = setOf mostDistricts (touchesDistrict b xs); ready = 0; gave = 0; decision = 0 }
+
 -- the next number is given, its place is the lowest free one
 unfoldable pub begun : ℕ → Book → List Step → Book
 begun w b xs =
@@ -127,7 +132,7 @@ begun w b xs =
       records = rows (λ d r. cond (touchesDistrict b xs d) (beginRecord n) r) (b .districts) (b .records);
       count = b .count;
       items = rows (beginItem w b xs) (b .count) (b .items);
-      «open» = set (b .«open») (freePlace w b) (record { number = record { 0 = n }; touched = setOf mostDistricts (touchesDistrict b xs); ready = 0; gave = 0; decision = 0 });
+      «open» = set (b .«open») (freePlace w b) (newRow b xs);
     }
 
 -- what a begin that answers a returns. A refused one gives number 0 and grant 0, and the book as it came.

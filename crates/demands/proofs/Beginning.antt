@@ -17,11 +17,11 @@ use Rattle.book.specs.Sound.{Sound}
 use Rattle.book.specs.Begin.{heldAt, touchesDistrict, begin}
 use Rattle.book.specs.Shaped.{Shaped}
 use Rattle.book.proofs.Laws.Programs.{run-reads, run-frame}
+use Rattle.book.proofs.Laws.Calls.{begin-tests}
 use Rattle.book.proofs.Laws.Touched.{touched-below}
 use Rattle.book.proofs.Laws.BeginSound.{Begins, touched-district, touched-idle, not-touched}
-use Rattle.book.proofs.Laws.Events.{begin-values}
+use Rattle.demands.proofs.Events.{begin-values}
 use Rattle.demands.specs.Demands.{pendingAt, Says}
-use Rattle.demands.proofs.Tables.{begin-facts}
 use Rattle.demands.proofs.Items.{begin-on}
 use Rattle.demands.proofs.Choosing.{chosenAt}
 
@@ -43,10 +43,10 @@ module _ (w : ℕ) (b : Book) (t : Shaped w b) (g : ℕ → Bool) (a : ℕ) (say
   c = begin w b bytes .book
 
   sound : Sound w b
-  sound = begin-facts w b t bytes e .0
+  sound = begin-tests w b bytes e .0
 
   tests : Begins w b (steps bytes)
-  tests = begin-facts w b t bytes e .1
+  tests = begin-tests w b bytes e .1
 
   -- an item of a touched district was on no transaction
   none : (i : ℕ) → touchesDistrict b xs (itemAt b i .district) ≡ true → itemOn b (itemAt b i) ≡ 0

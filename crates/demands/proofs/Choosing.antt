@@ -26,12 +26,12 @@ use Rattle.book.specs.Hear.{outcome, hear}
 use Rattle.book.proofs.Laws.Sound.{place-named}
 use Rattle.book.specs.Shaped.{Shaped}
 use Rattle.book.proofs.Laws.But.{place-open, computing-on, busy-is}
-use Rattle.book.proofs.Laws.Events.{ready-keeps, give-up-values, hear-values}
-use Rattle.book.proofs.Laws.Calls.{GivesUp, Hears}
+use Rattle.demands.proofs.Events.{ready-keeps, give-up-values, hear-values}
+use Rattle.book.proofs.Laws.Calls.{GivesUp, Hears, give-up-tests, hear-tests}
 use Rattle.demands.specs.Calls.{givesUp}
 use Rattle.demands.specs.Past.{Said, said, asksComplete, wasCompleted, wasAborted, Guess}
 use Rattle.demands.specs.Demands.{pendingAt, Says}
-use Rattle.demands.proofs.Tables.{give-up-facts, hear-facts, give-up-acts}
+use Rattle.demands.proofs.Tables.{give-up-acts}
 use Rattle.demands.proofs.Items.{stays-on, ready-on, give-up-on, busy-item, hear-on}
 use Rattle.demands.proofs.Ledger.{ever-now, Ledger, row-marks}
 use Rattle.demands.proofs.Marking.{give-up-marked, hear-marks}
@@ -73,7 +73,7 @@ module _ (w : ℕ) (b : Book) (t : Shaped w b) (g : ℕ → Bool) (a : ℕ) (s :
 
     module _ (n d : ℕ) (e : accepted (giveUp w b n d .answer) ≡ true) (legal : Guess (said w b (givesUp n d) ∷ past) g) where
       facts : GivesUp w b n d
-      facts = give-up-facts w b t n d e
+      facts = give-up-tests w b n d e
 
       -- a transaction on which a district computes is not completed
       notCompleted : computingOn n (recordAt b d) ≡ true → wasCompleted (said w b (givesUp n d) ∷ past) n ≡ true → ⊥
@@ -81,7 +81,7 @@ module _ (w : ℕ) (b : Book) (t : Shaped w b) (g : ℕ → Bool) (a : ℕ) (s :
           let o = openOf w b n in
           let marks = row-marks w b _ past l n _ (give-up-acts w b t n d e) in
           let its : openOf w b (recordAt b d .transaction .0) ≡ o = ap (openOf w b) (busy-is n (recordAt b d) (facts .last) .1) in
-          let one : o .decision ≡ 1 = eqb-true (o .decision) 1 (sym (marks .completed) ∙ sym (ever-now past (said w b (givesUp n d)) (asksComplete n) e) ∙ z) in
+          let one : o .decision ≡ 1 = eqb-true (o .decision) 1 (sym (marks .completed) ∙ sym (ever-now past (said w b (givesUp n d)) (λ before. asksComplete n) e) ∙ z) in
           let touched : member (o .touched) d ≡ true = rw its at (facts .sound .busyTouched d (facts .district) (busy-is n (recordAt b d) (facts .last) .0)) in
           let ready = facts .sound .completedReady (placeOf w b n) (facts .place) (place-open w b n (facts .place)) one d (facts .district) touched in
           let not : member (o .ready) d ≡ false = rw its at (facts .sound .computingNotReady d (facts .district) (computing-on n (recordAt b d) k .0)) in
@@ -114,7 +114,7 @@ module _ (w : ℕ) (b : Book) (t : Shaped w b) (g : ℕ → Bool) (a : ℕ) (s :
 
     module _ (n d : ℕ) (e : accepted (hear w b n d .answer) ≡ true) (legal : Guess past g) where
       hearing : Hears w b n d
-      hearing = hear-facts w b t n d e
+      hearing = hear-tests w b n d e
 
       -- the guess keeps the decision
       kept : g n ≡ outcome (openOf w b n)

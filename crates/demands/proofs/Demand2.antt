@@ -1,16 +1,13 @@
 -- Demand 2, from the laws of the book: one for each event.
-use mathlib.Core.Path.{_≡_, refl, sym, _∙_, ap}
+use mathlib.Core.Path.{_≡_, refl, sym, _∙_}
 use mathlib.Core.Bool.{true, false, not, _||_, cond, or-false, or-true}
 use Prim.Native.Nat.{ℕ, _<_}
 use lib.Dec.{eqb}
 use borrow.Author.Tests.{eqb-true, eq-eqb, ne-eqb}
 use Rattle.conditions.proofs.Laws.Below.{by-cases}
-use Rattle.polyvalues.specs.Pairs.{at}
-use Rattle.polyvalues.specs.Polyvalues.{inUse}
 use Rattle.polyvalues.proofs.Laws.Canon.{unique}
 use Rattle.polyvalues.proofs.Laws.Packed.{sound-well-formed}
 use Rattle.book.specs.declared.Book.{Book}
-use Rattle.book.specs.declared.Item.{Item}
 use Rattle.book.specs.declared.Open.{Open}
 use Rattle.book.specs.Answers.{accepted}
 use Rattle.book.specs.Book.{recordAt, itemAt, openAt, isOpen, placeOf, someDepends, someOn, openOf}
@@ -21,7 +18,7 @@ use Rattle.book.specs.GiveUp.{marked}
 use Rattle.book.specs.Begin.{heldAt}
 use Rattle.book.specs.Show.{shown}
 use Rattle.book.specs.Shaped.{Shaped}
-use Rattle.book.proofs.Laws.Events.{begin-values, ready-keeps, give-up-values, complete-keeps, abort-keeps, hear-values}
+use Rattle.demands.proofs.Events.{values-stay, begin-values, ready-keeps, give-up-values, complete-keeps, abort-keeps, hear-values}
 use Rattle.demands.specs.Calls.{Call, beginsWith, readies, givesUp, completes, aborts, hears, shows, answerTo, bookAfter}
 use Rattle.demands.specs.Demands.{pendingAt, Values, isDecided, Demand2}
 use Rattle.demands.proofs.Acts.{Acts, acts-number, acts-other}
@@ -29,9 +26,9 @@ use Rattle.demands.proofs.Tables.{ready-acts, give-up-acts, complete-ac
 use Rattle.demands.proofs.Leaving.{show-left, leaves}
 use Rattle.demands.proofs.Settled.{settled}
 
--- an item that stays has its values
+-- an item that stays has the values it had
 stays : (b c : Book) (i : ℕ) → itemAt c i ≡ itemAt b i → (a : ℕ) → Values c a i (heldAt b a i) (pendingAt b a i)
-stays b c i e a = record { held = ap (λ (x : Item). at (inUse (x .held)) a) e; pending = ap (λ (x : Item). at (inUse (x .pending)) a) e }
+stays b c i e a = values-stay b c a i e (record { held = refl; pending = refl })
 
 -- ---- forgetting
 
@@ -67,18 +64,18 @@ demand-2 w = record {
   held = λ b s i h. sound-well-formed w (itemAt b i .held) (s .held i h);
   pending = λ b s i h. sound-well-formed w (itemAt b i .pending) (s .pending i h);
   unique = unique w;
-  beginning = λ bytes b t e i h a l. let v = begin-values w b t i h a l bytes e in record { held = v .held; pending = v .pending };
+  beginning = λ bytes b t e i h a l. begin-values w b t i h a l bytes e;
   beginningRecords = λ bytes b t e d h. begin-record w b t bytes e d h;
   beginningAnswer = λ bytes b t e. (begin-number w b t bytes e, begin-grant w b t bytes e);
   readiness = λ n d b t e i h a l. stays b _ i (ready-keeps w b n d e i) a;
   readinessRecords = λ n d b t e x h. ready-record w b t n d e x;
-  givingUp = λ n d b t e i h a l. let v = give-up-values w b t i h a l n d e in record { held = v .held; pending = v .pending };
+  givingUp = λ n d b t e i h a l. give-up-values w b t i h a l n d e;
   givingUpRecords = λ n d b t e x h. give-up-record w b t n d e x;
   completing = λ n b t e i h a l. stays b _ i (complete-keeps w b n e i) a;
   completingRecords = λ n b t e x h. complete-record w b t n e x;
   aborting = λ n b t e i h a l. stays b _ i (abort-keeps w b n e i) a;
   abortingRecords = λ n b t e x h. abort-record w b t n e x;
-  hearing = λ n d b t e i h a l. let v = hear-values w b t i h a l n d e in record { held = v .held; pending = v .pending };
+  hearing = λ n d b t e i h a l. hear-values w b t i h a l n d e;
   hearingRecords = λ n d b t e x h. hear-record w b t n d e x;
   leaving = leaves w;
   settled = settled w;

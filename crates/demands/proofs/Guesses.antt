@@ -5,19 +5,19 @@ use mathlib.Core.List.{List, _∷_}
 use Prim.Native.Nat.{ℕ}
 use Rattle.conditions.proofs.Laws.Below.{by-cases}
 use Rattle.book.specs.declared.Book.{Book}
-use Rattle.demands.specs.Past.{Said, asksComplete, asksAbort, wasCompleted, wasAborted, wasGivenUp, Guess}
-use Rattle.demands.proofs.Ledger.{ever-still, given-up-still, Ledger}
+use Rattle.demands.specs.Past.{Said, asksComplete, asksAbort, wasCompleted, wasAborted, givesUpEarly, wasGivenUp, Guess}
+use Rattle.demands.proofs.Ledger.{ever-still, Ledger}
 
 -- where no transaction is completed by it that a district gave up before it was ready
 pub guess-before : (past : List Said) (x : Said) (g : ℕ → Bool) → Guess (x ∷ past) g
     → ((n : ℕ) → wasGivenUp past n ≡ true → wasCompleted past n ≡ false → wasCompleted (x ∷ past) n ≡ false) → Guess past g
 guess-before past x g s late = record {
-  completed = λ n e. s .completed n (ever-still past x (asksComplete n) e);
-  aborted = λ n e. s .aborted n (ever-still past x (asksAbort n) e);
+  completed = λ n e. s .completed n (ever-still past x (λ before. asksComplete n) e);
+  aborted = λ n e. s .aborted n (ever-still past x (λ before. asksAbort n) e);
   givenUp = λ n c a e.
       by-cases (wasAborted (x ∷ past) n)
       (λ k. s .aborted n k)
-      (λ k. s .givenUp n (late n e c) k (given-up-still past x n e));
+      (λ k. s .givenUp n (late n e c) k (ever-still past x (λ before. givesUpEarly before n) e));
 }
 
 -- the cautious guess: only what was decided complete completes

@@ -19,13 +19,13 @@ use Rattle.book.specs.Decide.{completeAnswer, abortAnswer, decide, complete, ab
 use Rattle.book.specs.Hear.{hearAnswer, heard, hear}
 use Rattle.book.specs.Shaped.{Shaped, Whole}
 use Rattle.book.proofs.Laws.BeginSound.{free-place}
-use Rattle.book.proofs.Laws.Events.{complete-keeps, abort-keeps}
-use Rattle.book.proofs.Laws.Calls.{done-refused, begin-refused}
+use Rattle.demands.proofs.Events.{complete-keeps, abort-keeps}
+use Rattle.book.proofs.Laws.Calls.{done-refused, begin-refused, begin-tests}
 use Rattle.demands.specs.Calls.{Call, beginsWith, readies, givesUp, completes, aborts, hears, shows, answerTo, bookAfter}
 use Rattle.demands.specs.Past.{Said, said, asksBegin, asksComplete, wasCompleted, wasGivenUp, began, Guess, runs, serial}
 use Rattle.demands.specs.Demands.{Says}
 use Rattle.demands.proofs.Acts.{Acts}
-use Rattle.demands.proofs.Tables.{ready-acts, give-up-acts, complete-acts, complete-record, abort-acts, abort-record, hear-acts, begin-facts, begin-after, begin-number, begin-count, begin-places}
+use Rattle.demands.proofs.Tables.{ready-acts, give-up-acts, complete-acts, complete-record, abort-acts, abort-record, hear-acts, begin-after, begin-number, begin-count, begin-places}
 use Rattle.demands.proofs.Assignments.{held-agree, pending-agree, saying-both}
 use Rattle.demands.proofs.Ledger.{ever-not, Same, refused-same, silent-same, Ledger, quiet-ledger}
 use Rattle.demands.proofs.Marking.{ready-ledger, give-up-ledger, complete-ledger, complete-kept, abort-ledger, hear-ledger, begin-ledger}
@@ -121,7 +121,7 @@ module _ (w : ℕ) (s₀ : ℕ → ℤ) (b : Book) (past : List Said) (v : Inv w
 
   -- a call that does not complete completes nothing
   notLate : (x : Said) → ((m : ℕ) → asksComplete m (x .call) ≡ false) → (m : ℕ) → wasGivenUp past m ≡ true → wasCompleted past m ≡ false → wasCompleted (x ∷ past) m ≡ false
-  notLate x e m k c = ever-not past x (asksComplete m) (rw (e m) (and-false (accepted (x .answer)))) ∙ c
+  notLate x e m k c = ever-not past x (λ before. asksComplete m) (rw (e m) (and-false (accepted (x .answer)))) ∙ c
 
   begins-inv : (bytes : List ℕ) → accepted (begin w b bytes .answer) ≡ true → Inv w s₀ (begin w b bytes .book) (said w b (beginsWith bytes) ∷ past)
   unfolding serial
@@ -142,7 +142,7 @@ module _ (w : ℕ) (s₀ : ℕ → ℤ) (b : Book) (past : List Said) (v : Inv w
       numbers : (q : ℕ) → q < w → isOpen (openAt (begin w b bytes .book) q) ≡ true → isOpen (openAt b q) ≡ true → openAt (begin w b bytes .book) q .number ≡ openAt b q .number
       numbers q h k z =
           by-cases (eqb q (freePlace w b))
-          (λ y. absurd (true≢false (sym z ∙ rw (eqb-true q (freePlace w b) y) (free-place w b (begin-facts w b t bytes e .0) t _ (begin-facts w b t bytes e .1)))))
+          (λ y. absurd (true≢false (sym z ∙ rw (eqb-true q (freePlace w b) y) (free-place w b (begin-tests w b bytes e .0) t _ (begin-tests w b bytes e .1)))))
           (λ y. rw (begin-places w b t bytes e q h k, y))
 
   -- every accepted call
@@ -162,7 +162,7 @@ module _ (w : ℕ) (s₀ : ℕ → ℤ) (b : Book) (past : List Said) (v : Inv w
       acts-inv _ n _ (said w b (completes n)) (complete-acts w b t n e) refl (complete-ledger w b t past (v .ledger) n e)
       (λ m k c. by-cases (eqb n m)
       (λ z. absurd (complete-kept w b t past (v .ledger) n e (ap (wasGivenUp past) (eqb-true n m z) ∙ k)))
-      (λ z. ever-not past (said w b (completes n)) (asksComplete m) (rw z (and-false (accepted (answerTo w b (completes n))))) ∙ c))
+      (λ z. ever-not past (said w b (completes n)) (λ before. asksComplete m) (rw z (and-false (accepted (answerTo w b (completes n))))) ∙ c))
       (λ g before legal a says i h. chosen-stays b _ g a i (complete-keeps w b n e i) (complete-record w b t n e))
   accepted-inv (aborts n) e =
       let t = v .whole .shaped in

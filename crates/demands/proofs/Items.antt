@@ -20,10 +20,10 @@ use Rattle.book.specs.GiveUp.{giveUpAnswer, giveUpItem, gaveUp, giveUp}
 use Rattle.book.specs.Hear.{outcome, hearAnswer, hearItem, heard, hear}
 use Rattle.book.specs.Shaped.{Shaped}
 use Rattle.book.proofs.Laws.Values.{forget-item, begin-item, give-up-item, hear-item}
-use Rattle.book.proofs.Laws.Events.{ready-keeps}
+use Rattle.demands.proofs.Events.{ready-keeps}
 use Rattle.book.proofs.Laws.But.{computing-on, busy-is, busy-on}
-use Rattle.book.proofs.Laws.Calls.{done-accepted, begin-accepted}
-use Rattle.demands.proofs.Tables.{ready-facts, ready-record, give-up-facts, give-up-record, hear-facts, hear-record, begin-facts, begin-record}
+use Rattle.book.proofs.Laws.Calls.{done-accepted, begin-accepted, begin-tests, ready-tests, give-up-tests, hear-tests}
+use Rattle.demands.proofs.Tables.{ready-record, give-up-record, hear-record, begin-record}
 
 -- an item stays on its transaction where it stays and no record changes: complete and abort
 pub stays-on : (b c : Book) (i : ℕ) → itemAt c i ≡ itemAt b i → ((d : ℕ) → recordAt c d ≡ recordAt b d) → itemOn c (itemAt c i) ≡ itemOn b (itemAt b i)
@@ -43,14 +43,14 @@ module _ (w : ℕ) (b : Book) (t : Shaped w b) (i : ℕ) (h : i < b .count) wher
       (λ k. rw k))
     where
       busy : eqb (recordAt b d .phase) 0 ≡ false
-      busy = ap (λ (m : ℕ). eqb m 0) (computing-on n (recordAt b d) (ready-facts w b t n d e .last) .0)
+      busy = ap (λ (m : ℕ). eqb m 0) (computing-on n (recordAt b d) (ready-tests w b n d e .last) .0)
 
   -- ---- give up
 
   pub give-up-district : (n d : ℕ) → accepted (giveUp w b n d .answer) ≡ true → itemAt (giveUp w b n d .book) i .district ≡ itemAt b i .district
   unfolding giveUp done giveUpItem split
   give-up-district n d e =
-      rw (done-accepted w (giveUpAnswer w b n d) (gaveUp w b n d) b e, forget-item w (gaveUp w b n d) i, give-up-item w b (give-up-facts w b t n d e .sound) t n d i h)
+      rw (done-accepted w (giveUpAnswer w b n d) (gaveUp w b n d) b e, forget-item w (gaveUp w b n d) i, give-up-item w b (give-up-tests w b n d e .sound) t n d i h)
       (by-cases (concerned b n d x)
       (λ k. rw k (by-cases (computingOn n (recordAt b d)) (λ z. rw z) (λ z. rw z)))
       (λ k. rw k))
@@ -72,7 +72,7 @@ module _ (w : ℕ) (b : Book) (t : Shaped w b) (i : ℕ) (h : i < b .count) wher
   pub hear-district : (n d : ℕ) → accepted (hear w b n d .answer) ≡ true → itemAt (hear w b n d .book) i .district ≡ itemAt b i .district
   unfolding hear done hearItem reduceItem
   hear-district n d e =
-      rw (done-accepted w (hearAnswer w b n d) (heard w b n d) b e, forget-item w (heard w b n d) i, hear-item w b (hear-facts w b t n d e .sound) t n d i h)
+      rw (done-accepted w (hearAnswer w b n d) (heard w b n d) b e, forget-item w (heard w b n d) i, hear-item w b (hear-tests w b n d e .sound) t n d i h)
       (by-cases (there d x)
       (λ k. rw k (by-cases (concerned b n d x) (λ z. rw z (by-cases (outcome (openOf w b n)) (λ y. rw y) (λ y. rw y))) (λ z. rw z)))
       (λ k. rw k))
@@ -89,12 +89,12 @@ module _ (w : ℕ) (b : Book) (t : Shaped w b) (i : ℕ) (h : i < b .count) wher
   pub begin-district : (bytes : List ℕ) → accepted (begin w b bytes .answer) ≡ true → itemAt (begin w b bytes .book) i .district ≡ itemAt b i .district
   unfolding beginItem
   begin-district bytes e =
-      rw (begin-accepted w b bytes e, forget-item w (begun w b (steps bytes)) i, begin-item w b (begin-facts w b t bytes e .0) t (steps bytes) i h)
+      rw (begin-accepted w b bytes e, forget-item w (begun w b (steps bytes)) i, begin-item w b (begin-tests w b bytes e .0) t (steps bytes) i h)
       (by-cases (touches (steps bytes) i) (λ k. rw k) (λ k. rw k))
 
   pub begin-on : (bytes : List ℕ) → (e : accepted (begin w b bytes .answer) ≡ true)
       → itemOn (begin w b bytes .book) (itemAt (begin w b bytes .book) i) ≡ cond (touchesDistrict b (steps bytes) (itemAt b i .district)) (suc (b .last .0)) (itemOn b (itemAt b i))
   unfolding itemOn recordOn
   begin-on bytes e =
-      rw (begin-district bytes e, begin-record w b t bytes e (x .district) (begin-facts w b t bytes e .0 .belongs i h))
+      rw (begin-district bytes e, begin-record w b t bytes e (x .district) (begin-tests w b bytes e .0 .belongs i h))
       (by-cases (touchesDistrict b (steps bytes) (x .district)) (λ k. rw k) (λ k. rw k))

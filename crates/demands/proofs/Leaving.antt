@@ -3,9 +3,7 @@ use mathlib.Core.Path.{_≡_, refl, sym, ap}
 use mathlib.Core.Bool.{true}
 use mathlib.Core.List.{List}
 use Prim.Native.Nat.{ℕ}
-use lib.Dec.{eqb}
-use borrow.Author.Tests.{eqb-true, not-false}
-use Rattle.conditions.proofs.Laws.Below.{by-cases}
+use borrow.Author.Tests.{not-false}
 use Rattle.book.specs.declared.Book.{Book}
 use Rattle.book.specs.declared.Item.{Item}
 use Rattle.book.specs.Answers.{accepted}
@@ -15,9 +13,9 @@ use Rattle.book.specs.Show.{showAnswer}
 use Rattle.book.proofs.Laws.Answers.{test-false}
 use Rattle.book.proofs.Laws.Sound.{test-sound}
 use Rattle.book.specs.Shaped.{Shaped}
-use Rattle.book.proofs.Laws.But.{sound-but}
+use Rattle.book.proofs.Laws.But.{sound-but, row-own}
 use Rattle.book.proofs.Laws.Forget.{forget-sound}
-use Rattle.book.proofs.Laws.Events.{ready-keeps, complete-keeps, abort-keeps}
+use Rattle.demands.proofs.Events.{ready-keeps, complete-keeps, abort-keeps}
 use Rattle.demands.specs.Calls.{Call, beginsWith, readies, givesUp, completes, aborts, hears, shows, answerTo, bookAfter}
 use Rattle.demands.specs.Demands.{Leaves}
 use Rattle.demands.proofs.Acts.{Left, left, acts-leaves}
@@ -45,5 +43,5 @@ leaves w (completes n) b t e = acts-leaves w b _ n _ (completes n) (complete-act
 leaves w (aborts n) b t e = acts-leaves w b _ n _ (aborts n) (abort-acts w b t n e) refl (λ q. refl) (λ i h. ap (λ (x : Item). x .district) (abort-keeps w b n e i))
 leaves w (hears n d) b t e =
     acts-leaves w b _ n _ (hears n d) (hear-acts w b t n d e) refl
-    (λ q. by-cases (eqb q (placeOf w b n)) (λ z. rw (z, eqb-true q (placeOf w b n) z)) (λ z. rw z)) (λ i h. hear-district w b t i h n d e)
+    (λ q. sym (row-own b (placeOf w b n) q)) (λ i h. hear-district w b t i h n d e)
 leaves w (shows i buf) b t e = record { last = refl; districts = refl; count = refl; belongs = λ j h. refl; places = show-left w b t i buf e .rows }

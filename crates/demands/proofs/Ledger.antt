@@ -1,7 +1,7 @@
 -- What the book keeps of an open transaction, its ready set, its gave-up set and its decision, is what the calls and their answers say of its number.
 use mathlib.Core.Path.{_≡_, refl, sym, _∙_, ap, subst}
 use mathlib.Core.Bool.{Bool, true, false, _&&_, _||_, and-false}
-use mathlib.Core.List.{List, _∷_}
+use mathlib.Core.List.{List, [], _∷_}
 use Prim.Native.Nat.{ℕ, _≤_, _<_}
 use native.Mathlib.Omega.{arith}
 use lib.Dec.{eqb}
@@ -20,40 +20,25 @@ use Rattle.demands.proofs.Acts.{Acts, acts-number, acts-other}
 
 -- ---- one call more
 
-or-false-left : (x y : Bool) → x ≡ false → (x || y) ≡ y
-or-false-left x y e = rw e
-
 or-later : (x y : Bool) → y ≡ true → (x || y) ≡ true
 or-later true y e = refl
 or-later false y e = e
 
 module _ (past : List Said) (x : Said) where
   -- a call that does not ask it, or was refused, adds nothing
-  pub ever-not : (asks : Call → Bool) → (accepted (x .answer) && asks (x .call)) ≡ false → ever asks (x ∷ past) ≡ ever asks past
+  pub ever-not : (asks : List Said → Call → Bool) → (accepted (x .answer) && asks past (x .call)) ≡ false → ever asks (x ∷ past) ≡ ever asks past
   unfolding ever
-  ever-not asks e = or-false-left _ _ e
-
-  pub given-up-not : (n : ℕ) → (accepted (x .answer) && givesUpEarly past n (x .call)) ≡ false → wasGivenUp (x ∷ past) n ≡ wasGivenUp past n
-  unfolding wasGivenUp
-  given-up-not n e = or-false-left _ _ e
+  ever-not asks e = rw e
 
   -- an accepted one that asks it does
-  pub ever-now : (asks : Call → Bool) → accepted (x .answer) ≡ true → ever asks (x ∷ past) ≡ (asks (x .call) || ever asks past)
+  pub ever-now : (asks : List Said → Call → Bool) → accepted (x .answer) ≡ true → ever asks (x ∷ past) ≡ (asks past (x .call) || ever asks past)
   unfolding ever
   ever-now asks e = rw e
 
-  pub given-up-now : (n : ℕ) → accepted (x .answer) ≡ true → wasGivenUp (x ∷ past) n ≡ (givesUpEarly past n (x .call) || wasGivenUp past n)
-  unfolding wasGivenUp
-  given-up-now n e = rw e
-
   -- what has happened stays so
-  pub ever-still : (asks : Call → Bool) → ever asks past ≡ true → ever asks (x ∷ past) ≡ true
+  pub ever-still : (asks : List Said → Call → Bool) → ever asks past ≡ true → ever asks (x ∷ past) ≡ true
   unfolding ever
-  ever-still asks e = or-later (accepted (x .answer) && asks (x .call)) (ever asks past) e
-
-  pub given-up-still : (n : ℕ) → wasGivenUp past n ≡ true → wasGivenUp (x ∷ past) n ≡ true
-  unfolding wasGivenUp
-  given-up-still n e = or-later (accepted (x .answer) && givesUpEarly past n (x .call)) (wasGivenUp past n) e
+  ever-still asks e = or-later (accepted (x .answer) && asks past (x .call)) (ever asks past) e
 
 -- two pasts say the same of the number n
 pub record Same (past now : List Said) (n : ℕ) : Type 0 where
@@ -62,13 +47,21 @@ pub record Same (past now : List Said) (n : ℕ) : Type 0 where
   pub ready : (d : ℕ) → wasReady now n d ≡ wasReady past n d
   pub gave : wasGivenUp now n ≡ wasGivenUp past n
 
+pub same-still : (past now then : List Said) (n : ℕ) → Same past now n → Same now then n → Same past then n
+same-still past now then n s t = record {
+  completed = t .completed ∙ s .completed;
+  aborted = t .aborted ∙ s .aborted;
+  ready = λ d. t .ready d ∙ s .ready d;
+  gave = t .gave ∙ s .gave;
+}
+
 -- a refused call says nothing of any number
 pub refused-same : (past : List Said) (x : Said) → accepted (x .answer) ≡ false → (n : ℕ) → Same past (x ∷ past) n
 refused-same past x e n = record {
-  completed = ever-not past x (asksComplete n) (rw e);
-  aborted = ever-not past x (asksAbort n) (rw e);
-  ready = λ d. ever-not past x (asksReady n d) (rw e);
-  gave = given-up-not past x n (rw e);
+  completed = ever-not past x (λ before. asksComplete n) (rw e);
+  aborted = ever-not past x (λ before. asksAbort n) (rw e);
+  ready = λ d. ever-not past x (λ before. asksReady n d) (rw e);
+  gave = ever-not past x (λ before. givesUpEarly before n) (rw e);
 }
 
 -- the number that a call speaks of is n
@@ -101,10 +94,10 @@ silent-same past x n e =
     let s = silent past n (x .call) e in
     let not-and : (y : Bool) → y ≡ false → (accepted (x .answer) && y) ≡ false = λ y k. rw k (and-false (accepted (x .answer))) in
     record {
-      completed = ever-not past x (asksComplete n) (not-and _ (s .completed));
-      aborted = ever-not past x (asksAbort n) (not-and _ (s .aborted));
-      ready = λ d. ever-not past x (asksReady n d) (not-and _ (s .ready d));
-      gave = given-up-not past x n (not-and _ (s .gave));
+      completed = ever-not past x (λ before. asksComplete n) (not-and _ (s .completed));
+      aborted = ever-not past x (λ before. asksAbort n) (not-and _ (s .aborted));
+      ready = λ d. ever-not past x (λ before. asksReady n d) (not-and _ (s .ready d));
+      gave = ever-not past x (λ before. givesUpEarly before n) (not-and _ (s .gave));
     }
 
 -- ---- marks
@@ -135,36 +128,21 @@ pub record Turns (past : List Said) (x : Said) (districts n : ℕ) (r o : Open) 
 
 turned-marks : (past : List Said) (x : Said) (districts n : ℕ) (r o : Open) → Turns past x districts n r o → Marks past districts n r → Marks (x ∷ past) districts n o
 turned-marks past x districts n r o t m = record {
-  completed = ever-now past x (asksComplete n) (t .answered) ∙ rw (m .completed) (t .completed);
-  aborted = ever-now past x (asksAbort n) (t .answered) ∙ rw (m .aborted) (t .aborted);
-  ready = λ d h. ever-now past x (asksReady n d) (t .answered) ∙ rw (m .ready d h) (t .ready d h);
+  completed = ever-now past x (λ before. asksComplete n) (t .answered) ∙ rw (m .completed) (t .completed);
+  aborted = ever-now past x (λ before. asksAbort n) (t .answered) ∙ rw (m .aborted) (t .aborted);
+  ready = λ d h. ever-now past x (λ before. asksReady n d) (t .answered) ∙ rw (m .ready d h) (t .ready d h);
   gave = λ e.
       by-cases (givesUpEarly past n (x .call))
       (λ k. t .gives k)
       (λ k.
-      let before = m .gave (sym (given-up-now past x n (t .answered) ∙ rw k) ∙ e) in
+      let before = m .gave (sym (ever-now past x (λ before. givesUpEarly before n) (t .answered) ∙ rw k) ∙ e) in
       (before .0, before .1, t .gave (before .0) (before .1) (before .2)));
 }
 
--- nothing is said of the number n
-pub record Unmarked (past : List Said) (n : ℕ) : Type 0 where
-  pub completed : wasCompleted past n ≡ false
-  pub aborted : wasAborted past n ≡ false
-  pub ready : (d : ℕ) → wasReady past n d ≡ false
-  pub gave : wasGivenUp past n ≡ false
-
-pub same-unmarked : (past now : List Said) (n : ℕ) → Same past now n → Unmarked past n → Unmarked now n
-same-unmarked past now n s u = record {
-  completed = s .completed ∙ u .completed;
-  aborted = s .aborted ∙ u .aborted;
-  ready = λ d. s .ready d ∙ u .ready d;
-  gave = s .gave ∙ u .gave;
-}
-
--- the book b and the past go together
+-- the book b and the past go together; nothing is said yet of a number that is not given
 pub record Ledger (w : ℕ) (b : Book) (past : List Said) : Type 0 where
   pub marks : (q : ℕ) → q < w → isOpen (openAt b q) ≡ true → Marks past (b .districts) (openAt b q .number .0) (openAt b q)
-  pub fresh : (n : ℕ) → b .last .0 < n → Unmarked past n
+  pub fresh : (n : ℕ) → b .last .0 < n → Same [] past n
   pub once : (n : ℕ) → wasCompleted past n ≡ true → wasAborted past n ≡ false
   pub last : b .last .0 ≡ began past
 
@@ -172,7 +150,7 @@ pub record Ledger (w : ℕ) (b : Book) (past : List Said) : Type 0 where
 pub quiet-ledger : (w : ℕ) (b : Book) (past : List Said) (x : Said) → ((n : ℕ) → Same past (x ∷ past) n) → began (x ∷ past) ≡ began past → Ledger w b past → Ledger w b (x ∷ past)
 quiet-ledger w b past x s count l = record {
   marks = λ q h k. same-marks past (x ∷ past) (b .districts) _ (openAt b q) (s _) (l .marks q h k);
-  fresh = λ n h. same-unmarked past (x ∷ past) n (s n) (l .fresh n h);
+  fresh = λ n h. same-still [] past (x ∷ past) n (l .fresh n h) (s n);
   once = λ n e. s n .aborted ∙ l .once n (sym (s n .completed) ∙ e);
   last = l .last ∙ sym count;
 }
@@ -215,7 +193,7 @@ module _ (w : ℕ) (b c : Book) (past : List Said) (l : Ledger w b past) (n : �
           let stays : openAt c p ≡ openAt b p = row ∙ rw e in
           let k′ : isOpen (openAt b p) ≡ true = rw stays at k in
           rw (stays, act .districts) (same-marks past (x ∷ past) (b .districts) _ (openAt b p) (elsewhere _ (acts-other w b c n o act p h k′ e)) (l .marks p h k′)));
-      fresh = λ m h. let h′ : b .last .0 < m = rw (act .last) at h in same-unmarked past (x ∷ past) m (elsewhere m (λ e. omega (arith, given))) (l .fresh m h′);
+      fresh = λ m h. let h′ : b .last .0 < m = rw (act .last) at h in same-still [] past (x ∷ past) m (l .fresh m h′) (elsewhere m (λ e. omega (arith, given)));
       once = λ m e. by-cases (eqb n m)
           (λ t. let same : n ≡ m = eqb-true n m t in rw (← same) (notBoth (rw (← same) at e)))
           (λ t. let s = elsewhere m (eqb-false n m t) in s .aborted ∙ l .once m (sym (s .completed) ∙ e));

@@ -1,5 +1,6 @@
 mod Acts
 mod Tables
+mod Events
 mod Items
 mod Leaving
 mod Assignments

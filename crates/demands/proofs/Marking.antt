@@ -1,11 +1,12 @@
 -- Each call keeps what the book says of its open transactions with what the calls and their answers say.
 use mathlib.Core.Path.{_≡_, refl, sym, _∙_, ap}
-use mathlib.Core.Bool.{true, false, _&&_, _||_, cond, true≢false, false≢true}
-use mathlib.Core.List.{List, _∷_}
+use mathlib.Core.Bool.{true, false, _&&_, _||_, cond, true≢false, false≢true, or-comm}
+use mathlib.Core.List.{List, [], _∷_}
 use Prim.Native.Nat.{ℕ, suc, _<_}
+use native.Mathlib.Nat.{lt-of-lt-of-le}
 use native.Mathlib.Omega.{arith}
 use lib.Dec.{eqb}
-use borrow.Author.Tests.{eq-eqb, ne-eqb, eqb-true, eqb-false, not-false}
+use borrow.Author.Tests.{eq-eqb, ne-eqb, eqb-true, not-false}
 use Rattle.conditions.specs.Sets.{member}
 use Rattle.conditions.proofs.Laws.Below.{and-left, by-cases}
 use Rattle.conditions.proofs.Laws.Sets.{member-none}
@@ -17,20 +18,19 @@ use Rattle.book.specs.Book.{mostDistricts, recordAt, openAt, isOpen, placeOf, f
 use Rattle.book.specs.Programs.{steps}
 use Rattle.book.specs.Records.{computingOn, waitingOn, busyOn}
 use Rattle.book.specs.Forget.{decided}
-use Rattle.book.specs.Begin.{begin}
+use Rattle.book.specs.Begin.{newRow, begin}
 use Rattle.book.specs.Ready.{reported, ready}
 use Rattle.book.specs.GiveUp.{marked, giveUp}
 use Rattle.book.specs.Decide.{withDecision, complete, abort}
 use Rattle.book.specs.Hear.{hear}
 use Rattle.book.specs.Shaped.{Shaped}
-use Rattle.book.proofs.Laws.Including.{including-own, member-including}
+use Rattle.book.proofs.Laws.Including.{including-own, member-including, including-either}
 use Rattle.book.proofs.Laws.But.{place-open, computing-on, busy-is}
-use Rattle.book.proofs.Laws.Calls.{GivesUp}
+use Rattle.book.proofs.Laws.Calls.{GivesUp, ready-tests, give-up-tests, complete-tests, abort-tests}
 use Rattle.demands.specs.Calls.{Call, beginsWith, readies, givesUp, completes, aborts, hears, answerTo}
-use Rattle.demands.specs.Past.{Said, said, asksReady, asksComplete, asksAbort, wasReady, givesUpEarly, wasGivenUp, began}
-use Rattle.demands.specs.Demands.{newRow}
-use Rattle.demands.proofs.Tables.{ready-facts, ready-acts, give-up-facts, give-up-acts, complete-facts, complete-acts, abort-facts, abort-acts, hear-acts, begin-last, begin-districts, begin-places}
-use Rattle.demands.proofs.Ledger.{given-up-now, silent-same, Same, Marks, Turns, same-marks, same-unmarked, Ledger, row-marks, acts-ledger}
+use Rattle.demands.specs.Past.{Said, said, asksReady, asksComplete, asksAbort, ever, wasReady, givesUpEarly, wasGivenUp, began}
+use Rattle.demands.proofs.Tables.{ready-acts, give-up-acts, complete-acts, abort-acts, hear-acts, begin-last, begin-districts, begin-places}
+use Rattle.demands.proofs.Ledger.{ever-now, silent-same, Same, Marks, Turns, same-still, same-marks, Ledger, row-marks, acts-ledger}
 
 -- a record that is busy and not computing waits
 waiting-on : (n : ℕ) (r : Record) → busyOn n r ≡ true → computingOn n r ≡ false → r .phase ≡ 2
@@ -73,11 +73,8 @@ module _ (w : ℕ) (b : Book) (t : Shaped w b) (past : List Said) (l : Ledger w 
       where
         reports : (f : ℕ) → f < b .districts → ((eqb n n && eqb d f) || member (openOf w b n .ready) f) ≡ member (reported d (openOf w b n) .ready) f
         reports f h =
-            let few : f < mostDistricts = omega (arith, ready-facts w b t n d e .sound .fewDistricts) in
-            rw (member-including (openOf w b n .ready) d f few, eq-eqb n n refl)
-            (by-cases (eqb d f)
-            (λ k. rw (k, eq-eqb f d (sym (eqb-true d f k))))
-            (λ k. rw (k, ne-eqb f d (λ z. eqb-false d f k (sym z)))))
+            let few : f < mostDistricts = lt-of-lt-of-le h (ready-tests w b n d e .sound .fewDistricts) in
+            rw (including-either (openOf w b n .ready) d f few, eq-eqb n n refl) (or-comm (eqb d f) _)
 
     pub ready-ledger : Ledger w (ready w b n d .book) (now (readies n d))
     ready-ledger = acts-ledger w b _ past l n _ (ready-acts w b t n d e) (said w b (readies n d)) (λ m apart. ne-eqb n m apart) refl readyTurns
@@ -89,7 +86,7 @@ module _ (w : ℕ) (b : Book) (t : Shaped w b) (past : List Said) (l : Ledger w 
     o = openOf w b n
 
     facts : GivesUp w b n d
-    facts = give-up-facts w b t n d e
+    facts = give-up-tests w b n d e
 
     -- the district is on this transaction
     itsRow : openOf w b (recordAt b d .transaction .0) ≡ o
@@ -105,7 +102,7 @@ module _ (w : ℕ) (b : Book) (t : Shaped w b) (past : List Said) (l : Ledger w 
         (λ k. rw (k, rw itsRow at (facts .sound .waitingReady d (facts .district) (waiting-on n (recordAt b d) (facts .last) k)))))
 
     pub give-up-marked : computingOn n (recordAt b d) ≡ true → wasGivenUp (now (givesUp n d)) n ≡ true
-    give-up-marked k = given-up-now past (said w b (givesUp n d)) n e ∙ rw (early, k)
+    give-up-marked k = ever-now past (said w b (givesUp n d)) (λ before. givesUpEarly before n) e ∙ rw (early, k)
 
     turnsEarly : Turns past (said w b (givesUp n d)) (b .districts) n o (marked d o)
     turnsEarly = record {
@@ -113,12 +110,9 @@ module _ (w : ℕ) (b : Book) (t : Shaped w b) (past : List Said) (l : Ledger w 
       completed = refl;
       aborted = refl;
       ready = λ f h. refl;
-      gives = λ z. (d, facts .district, including-own (o .gave) d (few d (facts .district)));
-      gave = λ f h k. rw (member-including (o .gave) d f (few f h)) (by-cases (eqb f d) (λ z. rw z) (λ z. rw z k));
+      gives = λ z. (d, facts .district, including-own (o .gave) d (lt-of-lt-of-le (facts .district) (facts .sound .fewDistricts)));
+      gave = λ f h k. rw (member-including (o .gave) d f (lt-of-lt-of-le h (facts .sound .fewDistricts))) (by-cases (eqb f d) (λ z. rw z) (λ z. rw z k));
     }
-      where
-        few : (f : ℕ) → f < b .districts → f < mostDistricts
-        few f h = omega (arith, facts .sound .fewDistricts)
 
     turnsLate : computingOn n (recordAt b d) ≡ false → Turns past (said w b (givesUp n d)) (b .districts) n o o
     turnsLate z = setsStay (givesUp n d) n (o .decision) e (λ f. refl) (early ∙ z) refl refl
@@ -135,7 +129,7 @@ module _ (w : ℕ) (b : Book) (t : Shaped w b) (past : List Said) (l : Ledger w 
     completeTurns : Turns past (said w b (completes n)) (b .districts) n (openOf w b n) (withDecision 1 (openOf w b n))
     completeTurns =
         setsStay (completes n) n 1 e (λ d. refl) refl (rw (eq-eqb n n refl))
-        (ap (λ (v : ℕ). eqb v 2) (undecided (openOf w b n) (complete-facts w b t n e .undecided)))
+        (ap (λ (v : ℕ). eqb v 2) (undecided (openOf w b n) (complete-tests w b n e .undecided)))
 
     pub complete-ledger : Ledger w (complete w b n .book) (now (completes n))
     complete-ledger = acts-ledger w b _ past l n _ (complete-acts w b t n e) (said w b (completes n)) (λ m apart. ne-eqb n m apart) refl completeTurns
@@ -145,7 +139,7 @@ module _ (w : ℕ) (b : Book) (t : Shaped w b) (past : List Said) (l : Ledger w 
     complete-kept k =
         let gave = row-marks w b _ past l n _ (complete-acts w b t n e) .gave k in
         let q = placeOf w b n in
-        let f = complete-facts w b t n e in
+        let f = complete-tests w b n e in
         let opened = place-open w b n (f .place) in
         let ready = f .ready refl (gave .0) (gave .1) (f .sound .gaveTouched q (f .place) opened (gave .0) (gave .1) (gave .2)) in
         true≢false (sym (gave .2) ∙ f .sound .apart q (f .place) opened (gave .0) (gave .1) ready)
@@ -155,7 +149,7 @@ module _ (w : ℕ) (b : Book) (t : Shaped w b) (past : List Said) (l : Ledger w 
   module _ (n : ℕ) (e : accepted (abort w b n .answer) ≡ true) where
     abortTurns : Turns past (said w b (aborts n)) (b .districts) n (openOf w b n) (withDecision 2 (openOf w b n))
     abortTurns =
-        setsStay (aborts n) n 2 e (λ d. refl) refl (ap (λ (v : ℕ). eqb v 1) (undecided (openOf w b n) (abort-facts w b t n e .undecided))) (rw (eq-eqb n n refl))
+        setsStay (aborts n) n 2 e (λ d. refl) refl (ap (λ (v : ℕ). eqb v 1) (undecided (openOf w b n) (abort-tests w b n e .undecided))) (rw (eq-eqb n n refl))
 
     pub abort-ledger : Ledger w (abort w b n .book) (now (aborts n))
     abort-ledger = acts-ledger w b _ past l n _ (abort-acts w b t n e) (said w b (aborts n)) (λ m apart. ne-eqb n m apart) refl abortTurns
@@ -181,15 +175,11 @@ module _ (w : ℕ) (b : Book) (t : Shaped w b) (past : List Said) (l : Ledger w 
     quiet n = silent-same past (said w b (beginsWith bytes)) n refl
 
     newMarks : Marks (now (beginsWith bytes)) (b .districts) (suc (b .last .0)) (newRow b (steps bytes))
+    unfolding ever
     newMarks =
         let n = suc (b .last .0) in
-        let u = l .fresh n (omega arith) in
-        record {
-          completed = quiet n .completed ∙ u .completed;
-          aborted = quiet n .aborted ∙ u .aborted;
-          ready = λ d h. quiet n .ready d ∙ u .ready d ∙ sym (member-none d);
-          gave = λ k. absurd (true≢false (sym k ∙ quiet n .gave ∙ u .gave));
-        }
+        let u = same-still [] past (now (beginsWith bytes)) n (l .fresh n (omega arith)) (quiet n) in
+        record { completed = u .completed; aborted = u .aborted; ready = λ d h. u .ready d ∙ sym (member-none d); gave = λ k. absurd (true≢false (sym k ∙ u .gave)) }
 
     pub begin-ledger : Ledger w (begin w b bytes .book) (now (beginsWith bytes))
     unfolding began
@@ -202,7 +192,7 @@ module _ (w : ℕ) (b : Book) (t : Shaped w b) (past : List Said) (l : Ledger w 
           let stays : openAt c q ≡ openAt b q = row ∙ rw z in
           let k′ : isOpen (openAt b q) ≡ true = rw stays at k in
           rw (stays, begin-districts w b t bytes e) (same-marks past (now (beginsWith bytes)) (b .districts) _ (openAt b q) (quiet _) (l .marks q h k′)));
-      fresh = λ n h. same-unmarked past (now (beginsWith bytes)) n (quiet n) (l .fresh n (omega (arith, begin-last w b t bytes e)));
+      fresh = λ n h. same-still [] past (now (beginsWith bytes)) n (l .fresh n (omega (arith, begin-last w b t bytes e))) (quiet n);
       once = λ n k. quiet n .aborted ∙ l .once n (sym (quiet n .completed) ∙ k);
       last = begin-last w b t bytes e ∙ rw e (ap suc (l .last));
     }

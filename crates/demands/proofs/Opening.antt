@@ -6,17 +6,16 @@ use Prim.Native.Nat.{ℕ, zero, suc, _^_, _<_}
 use native.Mathlib.Omega.{arith}
 use lib.IntN.{ℤ}
 use lib.ListN.{length, getD, getD-replicate}
-use Rattle.polyvalues.specs.declared.polyvalue.Pair.{Pair}
 use Rattle.polyvalues.specs.Pairs.{at, certain}
 use Rattle.polyvalues.specs.Polyvalues.{inUse, packed}
-use Rattle.polyvalues.proofs.Laws.Canon.{at-canon, certain-canon}
-use Rattle.polyvalues.proofs.Laws.Packed.{inUse-packed}
+use Rattle.polyvalues.proofs.Laws.Canon.{certain-canon}
 use Rattle.book.specs.declared.Item.{Item}
 use Rattle.book.specs.declared.Opening.{Opening}
 use Rattle.book.specs.Book.{noOpen, itemAt, openAt, isOpen}
 use Rattle.book.specs.Open.{goodOpening, openedItem, openedBook, opened}
+use Rattle.book.proofs.Laws.Values.{made-at}
 use Rattle.book.proofs.Laws.OpenedShaped.{opened-whole}
-use Rattle.demands.specs.Past.{ever, wasGivenUp, began, serial}
+use Rattle.demands.specs.Past.{ever, began, serial}
 use Rattle.demands.specs.Demands.{openingOf}
 use Rattle.demands.proofs.Ledger.{Ledger}
 use Rattle.demands.proofs.Choosing.{chosen-one}
@@ -41,7 +40,7 @@ module _ (w districts : ℕ) (xs : List Opening) (good : goodOpening districts x
   opened-district i h = ap (λ (x : Item). x .district) (item i h)
 
   certain-at : (v : ℤ) (a : ℕ) → a < 2 ^ w → at (inUse (packed (certain w v))) a ≡ v
-  certain-at v a l = ap (λ (ps : List Pair). at ps a) (inUse-packed (certain w v) ∙ certain-canon w v) ∙ at-canon w (λ c. v) a l
+  certain-at v = made-at w (λ c. v) (certain w v) (certain-canon w v)
 
   -- no place is open
   free : (q : ℕ) → q < w → isOpen (openAt (opened w districts xs) q) ≡ false
@@ -49,7 +48,7 @@ module _ (w districts : ℕ) (xs : List Opening) (good : goodOpening districts x
   free q h = rw (good, getD-replicate w q noOpen noOpen h)
 
   ledger : Ledger w (opened w districts xs) []
-  unfolding ever wasGivenUp began opened openedBook
+  unfolding ever began opened openedBook
   ledger = record {
     marks = λ q h k. absurd (false≢true (sym (free q h) ∙ k));
     fresh = λ n h. record { completed = refl; aborted = refl; ready = λ d. refl; gave = refl };

@@ -70,22 +70,22 @@ asksAbort n (shows i buf) = false
 
 -- ---- what has happened: of refused calls nothing
 
--- an accepted call of the past asked this
-unfoldable pub ever : (Call → Bool) → List Said → Bool
+-- an accepted call of the past, with those before it, asked this
+unfoldable pub ever : (List Said → Call → Bool) → List Said → Bool
 ever asks [] = false
-ever asks (x ∷ before) = accepted (x .answer) && asks (x .call) || ever asks before
+ever asks (x ∷ before) = accepted (x .answer) && asks before (x .call) || ever asks before
 
 -- the district d reported ready for the transaction number n
 abbrev pub wasReady : List Said → ℕ → ℕ → Bool
-wasReady past n d = ever (asksReady n d) past
+wasReady past n d = ever (λ before. asksReady n d) past
 
 -- the transaction number n was decided complete
 abbrev pub wasCompleted : List Said → ℕ → Bool
-wasCompleted past n = ever (asksComplete n) past
+wasCompleted past n = ever (λ before. asksComplete n) past
 
 -- it was decided aborted
 abbrev pub wasAborted : List Said → ℕ → Bool
-wasAborted past n = ever (asksAbort n) past
+wasAborted past n = ever (λ before. asksAbort n) past
 
 -- a call, with these calls before it, has a district give up on the transaction number n that had not reported ready for it
 abbrev pub givesUpEarly : List Said → ℕ → Call → Bool
@@ -98,9 +98,8 @@ givesUpEarly before n (hears m d) = false
 givesUpEarly before n (shows i buf) = false
 
 -- "a district gave up before it was ready" on the transaction number n
-unfoldable pub wasGivenUp : List Said → ℕ → Bool
-wasGivenUp [] n = false
-wasGivenUp (x ∷ before) n = accepted (x .answer) && givesUpEarly before n (x .call) || wasGivenUp before n
+abbrev pub wasGivenUp : List Said → ℕ → Bool
+wasGivenUp past n = ever (λ before. givesUpEarly before n) past
 
 -- how many transactions began
 unfoldable pub began : List Said → ℕ

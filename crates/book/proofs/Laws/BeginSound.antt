@@ -30,7 +30,7 @@ use Rattle.book.specs.Book.{mostDistricts, mostItems, lastNumber, noReco
 use Rattle.book.specs.Programs.{run, touches}
 use Rattle.book.specs.Records.{beginRecord}
 use Rattle.book.specs.Items.{becomes}
-use Rattle.book.specs.Begin.{someStep, badStep, outside, heldAt, results, someBusy, tooMany, touchesDistrict, beginItem, begun}
+use Rattle.book.specs.Begin.{someStep, badStep, outside, heldAt, results, someBusy, tooMany, touchesDistrict, beginItem, newRow, begun}
 use Rattle.book.specs.Sound.{Sound}
 use Rattle.book.proofs.Laws.Rows.{length-rows, getD-rows, past-rows, each-row, getD-set}
 use Rattle.book.proofs.Laws.Programs.{run-reads, run-range}
@@ -38,7 +38,7 @@ use Rattle.book.proofs.Laws.Touched.{touched-below, touched-idle as dis
 use Rattle.book.proofs.Laws.Sound.{place-named}
 use Rattle.book.specs.Shaped.{ShapedItem, Shaped}
 use Rattle.book.proofs.Laws.Values.{begin-item}
-use Rattle.book.proofs.Laws.But.{DistrictRow, ItemRow, OpenRow, SoundBut, sound-but, placeOf-is, placeOf-kept, seen-same, district-stays, item-stays, on-busy, place-open}
+use Rattle.book.proofs.Laws.But.{DistrictRow, ItemRow, OpenRow, SoundBut, sound-but, placeOf-is, placeOf-kept, seen-same, district-stays, item-stays, item-place, place-open}
 use Rattle.polyvalues.proofs.Laws.Paired.{packed-rows}
 use Rattle.book.proofs.Laws.Settling.{neither-depends, depends-neither}
 
@@ -74,7 +74,7 @@ module _ (w : ℕ) (b : Book) (sound : Sound w b) (t : Shaped w b) (xs : List St
   c = begun w b xs
 
   abbrev new : Open
-  new = record { number = record { 0 = n }; touched = setOf mostDistricts (touchesDistrict b xs); ready = 0; gave = 0; decision = 0 }
+  new = newRow b xs
 
   s : SoundBut w b
   s = sound-but w b sound
@@ -89,8 +89,7 @@ module _ (w : ℕ) (b : Book) (sound : Sound w b) (t : Shaped w b) (xs : List St
   begin-records e h =
       getD-rows (λ d r. cond (touchesDistrict b xs d) (beginRecord n) r) noRecord (b .districts) (b .records) e h (omega (arith, sound .fewDistricts, t .records))
 
-  pub begin-opens : (m : ℕ) → openAt (begun w b xs) m
-      ≡ cond (eqb m (freePlace w b)) (record { number = record { 0 = suc (b .last .0) }; touched = setOf mostDistricts (touchesDistrict b xs); ready = 0; gave = 0; decision = 0 }) (openAt b m)
+  pub begin-opens : (m : ℕ) → openAt (begun w b xs) m ≡ cond (eqb m (freePlace w b)) (newRow b xs) (openAt b m)
   unfolding begun
   begin-opens m = getD-set (b .«open») q new noOpen m (omega (arith, f .place, t .places))
 
@@ -250,13 +249,6 @@ module _ (w : ℕ) (b : Book) (sound : Sound w b) (t : Shaped w b) (xs : List St
     fewTogether = sound .fewTogether i h;
   }
 
-  oldPlace : (i : ℕ) → i < b .count → 1 ≤ itemOn b (itemAt b i) → placeOf w c (itemOn b (itemAt b i)) ≡ placeOf w b (itemOn b (itemAt b i))
-  unfolding itemOn
-  oldPlace i h k =
-      let d : ℕ = itemAt b i .district in
-      let busy = on-busy (recordAt b d) k in
-      rw (busy .1) (placeOld (recordAt b d .transaction .0) (s .districts d (sound .belongs i h) .busyOpen (busy .0)))
-
   pub not-touched : (i : ℕ) → touchesDistrict b xs (itemAt b i .district) ≡ false → touches xs i ≡ false
   not-touched i k = by-cases (touches xs i) (λ z. absurd (true≢false (sym (touched-district i z) ∙ k))) (λ z. z)
 
@@ -268,7 +260,7 @@ module _ (w : ℕ) (b : Book) (sound : Sound w b) (t : Shaped w b) (xs : List St
       (λ z. rw (begin-item w b sound t xs i h, itemTouched i x z, onNew (becomes x (x .held) (packed (results w b xs i))) k, placeNew) (touchedRow i z))
       (λ z. rw (begin-item w b sound t xs i h, itemElse i x z, onNew x k, placeNew) (besideRow i h)))
       (λ k. rw (begin-item w b sound t xs i h, itemElse i x (not-touched i k))
-      (item-stays w (b .districts) _ _ _ _ x (s .items i h) (onOld x (sound .belongs i h) k) (λ z. ap (placeOf w c) (onOld x (sound .belongs i h) k) ∙ oldPlace i h z)))
+      (item-stays w (b .districts) _ _ _ _ x (s .items i h) (onOld x (sound .belongs i h) k) (λ z. ap (placeOf w c) (onOld x (sound .belongs i h) k) ∙ item-place w b c x (λ k. placeOld _ (s .districts (x .district) (sound .belongs i h) .busyOpen k)) z)))
 
   free : (j : ℕ) → j < b .count → (m : ℕ) → ((i : ℕ) → i < b .count → itemDepends w (itemAt b i) m ≡ false) → itemDepends w (itemAt c j) m ≡ false
   free j h m none =
@@ -282,8 +274,8 @@ module _ (w : ℕ) (b : Book) (sound : Sound w b) (t : Shaped w b) (xs : List St
 
   -- ---- open transactions
 
-  newRow : OpenRow (b .districts) n new
-  newRow = record {
+  rowNew : OpenRow (b .districts) n new
+  rowNew = record {
     touched = set-below mostDistricts (b .districts) (touchesDistrict b xs) (sound .fewDistricts) (λ d h k. touched-idle d k .0);
     ready = pow-pos (b .districts);
     gave = pow-pos (b .districts);
@@ -310,7 +302,7 @@ module _ (w : ℕ) (b : Book) (sound : Sound w b) (t : Shaped w b) (xs : List St
   rows : (m : ℕ) → m < w → isOpen (openAt c m) ≡ true → OpenRow (b .districts) n (openAt c m)
   rows m h k =
       by-cases (eqb m q)
-      (λ e. rw (here m e) newRow)
+      (λ e. rw (here m e) rowNew)
       (λ e. rw (other m e) (oldRow (openAt b m) (s .opens m h (rw (other m e) at k))))
 
   differ : (m : ℕ) → m < w → isOpen (openAt c m) ≡ true → (j : ℕ) → j < m → openAt c j .number .0 ≡ openAt c m .number .0 → ⊥

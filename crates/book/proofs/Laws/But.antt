@@ -1,7 +1,7 @@
 -- Soundness but for one clause, "a decided open transaction has a district on it or a polyvalue that depends on its place": what each event keeps before it forgets.
 -- The clauses stand by row here, and say of the rest of the book only what the row is about: the transaction it is on, and its place.
 use mathlib.Core.Path.{_≡_, refl, sym, _∙_, ap}
-use mathlib.Core.Bool.{true, false, true≢false}
+use mathlib.Core.Bool.{true, false, cond, true≢false}
 use Prim.Native.Nat.{ℕ, _^_, _≤_, _<_}
 use native.Mathlib.Omega.{arith}
 use lib.Dec.{eqb}
@@ -190,6 +190,17 @@ pub record Seen (d : ℕ) (o p : Open) : Type 0 where
 pub seen-same : (d : ℕ) (o p : Open) → p ≡ o → Seen d o p
 seen-same d o p e = record { touched = rw e; ready = rw e; gave = rw e }
 
+-- of each transaction, where that at place q is as it was
+pub seen-at : (b c : Book) (q e : ℕ) (o : Open) → ((m : ℕ) → openAt c m ≡ cond (eqb m q) o (openAt b m)) → Seen e (openAt b q) o → (m : ℕ) → Seen e (openAt b m) (openAt c m)
+seen-at b c q e o opens seen m =
+    by-cases (eqb m q)
+    (λ z. rw (opens m, z, eqb-true m q z) seen)
+    (λ z. seen-same e (openAt b m) (openAt c m) (opens m ∙ rw z))
+
+-- a row set to itself
+pub row-own : (b : Book) (q m : ℕ) → openAt b m ≡ cond (eqb m q) (openAt b q) (openAt b m)
+row-own b q m = by-cases (eqb m q) (λ z. rw (z, eqb-true m q z)) (λ z. rw z)
+
 pub district-stays : (w d q u : ℕ) (o p : Open) (r : Record) → DistrictRow w d q o r → (idle r ≡ false → u ≡ q) → (idle r ≡ false → Seen d o p) → DistrictRow w d u p r
 district-stays w d q u o p r f place seen = record {
   phases = f .phases;
@@ -219,6 +230,13 @@ on-busy r h = by-cases (idle r) (λ e. let none : recordOn r ≡ 0 = rw e in abs
 pub busy-on : (r : Record) → idle r ≡ false → recordOn r ≡ r .transaction .0
 unfolding recordOn
 busy-on r e = rw e
+
+-- an item's transaction keeps its place where its district's does
+pub item-place : (w : ℕ) (b c : Book) (x : Item)
+    → (idle (recordAt b (x .district)) ≡ false → placeOf w c (recordAt b (x .district) .transaction .0) ≡ placeOf w b (recordAt b (x .district) .transaction .0))
+    → 1 ≤ itemOn b x → placeOf w c (itemOn b x) ≡ placeOf w b (itemOn b x)
+unfolding itemOn
+item-place w b c x place k = let busy = on-busy (recordAt b (x .district)) k in rw (busy .1) (place (busy .0))
 
 -- what is at the place of an open number is open
 pub place-open : (w : ℕ) (b : Book) (n : ℕ) → placeOf w b n < w → isOpen (openAt b (placeOf w b n)) ≡ true

@@ -94,8 +94,8 @@ at-district w b n d fact a refused e =
 abbrev pub Readies : ℕ → Book → ℕ → ℕ → Type 0
 Readies w b n d = AtDistrict w b n d (computingOn n (recordAt b d))
 
-pub ready-tests : (w : ℕ) (b : Book) (n d : ℕ) → accepted (readyAnswer w b n d) ≡ true → Readies w b n d
-unfolding readyAnswer
+pub ready-tests : (w : ℕ) (b : Book) (n d : ℕ) → accepted (ready w b n d .answer) ≡ true → Readies w b n d
+unfolding ready done readyAnswer
 ready-tests w b n d = at-district w b n d (computingOn n (recordAt b d)) NotOnIt refl
 
 pub ready-leaves : (w : ℕ) (b : Book) (n d : ℕ) → Shaped w b → Readies w b n d → WholeBut w (readied w b n d)
@@ -103,16 +103,16 @@ ready-leaves w b n d t f =
     record { but = ready-but w b (sound-but w b (f .sound)) t n d (f .place) (f .district) (f .last); shaped = ready-shaped w b n d t }
 
 pub ready-whole : (w : ℕ) (b : Book) (n d : ℕ) → Whole w b → Whole w (ready w b n d .book)
-unfolding ready
-ready-whole w b n d s = done-whole w _ _ b s (λ e. ready-leaves w b n d (s .shaped) (ready-tests w b n d e))
+unfolding ready done
+ready-whole w b n d s = done-whole w (readyAnswer w b n d) (readied w b n d) b s (λ e. ready-leaves w b n d (s .shaped) (ready-tests w b n d e))
 
 -- ---- give up
 
 abbrev pub GivesUp : ℕ → Book → ℕ → ℕ → Type 0
 GivesUp w b n d = AtDistrict w b n d (busyOn n (recordAt b d))
 
-pub give-up-tests : (w : ℕ) (b : Book) (n d : ℕ) → accepted (giveUpAnswer w b n d) ≡ true → GivesUp w b n d
-unfolding giveUpAnswer
+pub give-up-tests : (w : ℕ) (b : Book) (n d : ℕ) → accepted (giveUp w b n d .answer) ≡ true → GivesUp w b n d
+unfolding giveUp done giveUpAnswer
 give-up-tests w b n d = at-district w b n d (busyOn n (recordAt b d)) NotOnIt refl
 
 pub give-up-leaves : (w : ℕ) (b : Book) (n d : ℕ) → Shaped w b → GivesUp w b n d → WholeBut w (gaveUp w b n d)
@@ -120,8 +120,8 @@ give-up-leaves w b n d t f =
     record { but = give-up-but w b (f .sound) t n d (f .place) (f .district) (f .last); shaped = give-up-shaped w b (f .sound) t n d (f .place) (f .district) (f .last) }
 
 pub give-up-whole : (w : ℕ) (b : Book) (n d : ℕ) → Whole w b → Whole w (giveUp w b n d .book)
-unfolding giveUp
-give-up-whole w b n d s = done-whole w _ _ b s (λ e. give-up-leaves w b n d (s .shaped) (give-up-tests w b n d e))
+unfolding giveUp done
+give-up-whole w b n d s = done-whole w (giveUpAnswer w b n d) (gaveUp w b n d) b s (λ e. give-up-leaves w b n d (s .shaped) (give-up-tests w b n d e))
 
 -- ---- complete and abort
 
@@ -151,12 +151,12 @@ decide-tests w b n v more known ready e =
       ready = λ one d h k. not-false _ (rw k at (any-none (b .districts) (λ d. member (o .touched) d && not (member (o .ready) d)) (ready e3 one) d h));
     }
 
-pub complete-tests : (w : ℕ) (b : Book) (n : ℕ) → accepted (completeAnswer w b n) ≡ true → Decides w b n 1
-unfolding completeAnswer
+pub complete-tests : (w : ℕ) (b : Book) (n : ℕ) → accepted (complete w b n .answer) ≡ true → Decides w b n 1
+unfolding complete done completeAnswer
 complete-tests w b n = decide-tests w b n 1 _ (omega arith) (λ e one. test-false _ _ _ refl e)
 
-pub abort-tests : (w : ℕ) (b : Book) (n : ℕ) → accepted (abortAnswer w b n) ≡ true → Decides w b n 2
-unfolding abortAnswer
+pub abort-tests : (w : ℕ) (b : Book) (n : ℕ) → accepted (abort w b n .answer) ≡ true → Decides w b n 2
+unfolding abort done abortAnswer
 abort-tests w b n = decide-tests w b n 2 [] (omega arith) (λ e one. absurd (omega arith))
 
 pub decide-leaves : (w : ℕ) (b : Book) (n v : ℕ) → Shaped w b → Decides w b n v → WholeBut w (decide w b n v)
@@ -164,20 +164,20 @@ decide-leaves w b n v t f =
     record { but = decide-but w b (sound-but w b (f .sound)) t n (f .place) v (f .known) (f .ready); shaped = decide-shaped w b n v t }
 
 pub complete-whole : (w : ℕ) (b : Book) (n : ℕ) → Whole w b → Whole w (complete w b n .book)
-unfolding complete
-complete-whole w b n s = done-whole w _ _ b s (λ e. decide-leaves w b n 1 (s .shaped) (complete-tests w b n e))
+unfolding complete done
+complete-whole w b n s = done-whole w (completeAnswer w b n) (decide w b n 1) b s (λ e. decide-leaves w b n 1 (s .shaped) (complete-tests w b n e))
 
 pub abort-whole : (w : ℕ) (b : Book) (n : ℕ) → Whole w b → Whole w (abort w b n .book)
-unfolding abort
-abort-whole w b n s = done-whole w _ _ b s (λ e. decide-leaves w b n 2 (s .shaped) (abort-tests w b n e))
+unfolding abort done
+abort-whole w b n s = done-whole w (abortAnswer w b n) (decide w b n 2) b s (λ e. decide-leaves w b n 2 (s .shaped) (abort-tests w b n e))
 
 -- ---- hear
 
 abbrev pub Hears : ℕ → Book → ℕ → ℕ → Type 0
 Hears w b n d = AtDistrict w b n d (decided (openOf w b n))
 
-pub hear-tests : (w : ℕ) (b : Book) (n d : ℕ) → accepted (hearAnswer w b n d) ≡ true → Hears w b n d
-unfolding hearAnswer
+pub hear-tests : (w : ℕ) (b : Book) (n d : ℕ) → accepted (hear w b n d .answer) ≡ true → Hears w b n d
+unfolding hear done hearAnswer
 hear-tests w b n d = at-district w b n d (decided (openOf w b n)) NotDecided refl
 
 pub hear-leaves : (w : ℕ) (b : Book) (n d : ℕ) → Shaped w b → Hears w b n d → WholeBut w (heard w b n d)
@@ -185,13 +185,13 @@ hear-leaves w b n d t f =
     record { but = hear-but w b (f .sound) t n d (f .place) (f .district); shaped = hear-shaped w b (f .sound) t n d (f .place) (f .district) }
 
 pub hear-whole : (w : ℕ) (b : Book) (n d : ℕ) → Whole w b → Whole w (hear w b n d .book)
-unfolding hear
-hear-whole w b n d s = done-whole w _ _ b s (λ e. hear-leaves w b n d (s .shaped) (hear-tests w b n d e))
+unfolding hear done
+hear-whole w b n d s = done-whole w (hearAnswer w b n d) (heard w b n d) b s (λ e. hear-leaves w b n d (s .shaped) (hear-tests w b n d e))
 
 -- ---- begin
 
-pub begin-tests : (w : ℕ) (b : Book) (bytes : List ℕ) → accepted (beginAnswer w b bytes) ≡ true → (Sound w b) × (Begins w b (steps bytes))
-unfolding beginAnswer badProgram
+pub begin-tests : (w : ℕ) (b : Book) (bytes : List ℕ) → accepted (begin w b bytes .answer) ≡ true → (Sound w b) × (Begins w b (steps bytes))
+unfolding begin beginAnswer badProgram
 begin-tests w b bytes e =
     let e1 = later-accepted _ _ _ refl e in
     let e2 = later-accepted _ _ _ refl e1 in
@@ -214,8 +214,7 @@ pub begin-leaves : (w : ℕ) (b : Book) (xs : List Step) → Shaped w b → (Sou
 begin-leaves w b xs t f = record { but = begin-but w b (f .0) t xs (f .1); shaped = begin-shaped w b (f .0) t xs (f .1) }
 
 pub begin-whole : (w : ℕ) (b : Book) (bytes : List ℕ) → Whole w b → Whole w (begin w b bytes .book)
-unfolding begin
 begin-whole w b bytes s =
-    by-cases (accepted (beginAnswer w b bytes))
+    by-cases (accepted (begin w b bytes .answer))
     (λ e. rw (begin-accepted w b bytes e) (forgotten w _ (begin-leaves w b (steps bytes) (s .shaped) (begin-tests w b bytes e))))
     (λ e. rw (begin-refused w b bytes e) s)

@@ -5,16 +5,14 @@ use Prim.Native.Nat.{ℕ, _≤_, _<_}
 use native.Mathlib.Omega.{arith}
 use lib.Dec.{eqb}
 use lib.ListN.{length-set}
-use borrow.Author.Tests.{eqb-true}
 use Rattle.conditions.specs.Sets.{member}
-use Rattle.conditions.proofs.Laws.Below.{by-cases}
 use Rattle.book.specs.declared.Open.{Open}
 use Rattle.book.specs.declared.Book.{Book}
 use Rattle.book.specs.Book.{noOpen, recordAt, openAt, itemOn, placeOf, openOf}
 use Rattle.book.specs.Decide.{withDecision, decide}
 use Rattle.book.specs.Shaped.{Shaped}
 use Rattle.book.proofs.Laws.Rows.{getD-set}
-use Rattle.book.proofs.Laws.But.{OpenRow, SoundBut, Seen, seen-same, district-stays, place-open}
+use Rattle.book.proofs.Laws.But.{OpenRow, SoundBut, Seen, seen-at, district-stays, place-open}
 use Rattle.book.proofs.Laws.Changing.{change-but}
 
 pub decide-shaped : (w : ℕ) (b : Book) (n v : ℕ) → Shaped w b → Shaped w (decide w b n v)
@@ -67,7 +65,4 @@ module _ (w : ℕ) (b : Book) (s : SoundBut w b) (t : Shaped w b) (n : ℕ) (p :
       })
     where
       seen : (e m : ℕ) → Seen e (openAt b m) (openAt (decide w b n v) m)
-      seen e m =
-          by-cases (eqb m q)
-          (λ z. rw (decide-opens v m, z, eqb-true m q z) (record { touched = refl; ready = refl; gave = refl }))
-          (λ z. seen-same e (openAt b m) (openAt (decide w b n v) m) (decide-opens v m ∙ rw z))
+      seen e = seen-at b (decide w b n v) q e (withDecision v o) (decide-opens v) (record { touched = refl; ready = refl; gave = refl })

@@ -1,7 +1,7 @@
 -- Forgetting keeps what is sound, and makes a book sound that was so but for the transactions which no district and no polyvalue needs any more.
 use mathlib.Core.Path.{_≡_, refl, sym, _∙_, ap}
 use mathlib.Core.Bool.{Bool, true, false, not, _||_, true≢false, false≢true}
-use Prim.Native.Nat.{ℕ, _≤_, _<_}
+use Prim.Native.Nat.{ℕ, _<_}
 use native.Mathlib.Omega.{arith}
 use lib.Dec.{eqb}
 use borrow.Author.Tests.{eq-eqb, eqb-false, not-true}
@@ -16,7 +16,7 @@ use Rattle.book.proofs.Laws.Rows.{length-rows, getD-rows}
 use Rattle.book.proofs.Laws.Forget.{kept-needed}
 use Rattle.book.proofs.Laws.Sound.{place-named}
 use Rattle.book.specs.Shaped.{Shaped}
-use Rattle.book.proofs.Laws.But.{SoundBut, placeOf-kept, seen-same, district-stays, item-stays, on-busy, busy-on, but-sound}
+use Rattle.book.proofs.Laws.But.{SoundBut, placeOf-kept, seen-same, district-stays, item-stays, item-place, busy-on, but-sound}
 
 -- forgetting keeps the lengths
 pub forget-shaped : (w : ℕ) (b : Book) → Shaped w b → Shaped w (forget w b)
@@ -89,13 +89,6 @@ module _ (w : ℕ) (b : Book) (s : SoundBut w b) (t : Shaped w b) where
       placeOf-kept w b c n (s .districts d h .busyOpen k) (ap (named n) (itsRow d h k))
       (λ j l. earlier n j (fate j (omega (arith, s .districts d h .busyOpen k))))
 
-  itemPlace : (i : ℕ) → i < b .count → 1 ≤ itemOn b (itemAt b i) → placeOf w c (itemOn b (itemAt b i)) ≡ placeOf w b (itemOn b (itemAt b i))
-  unfolding itemOn
-  itemPlace i h k =
-      let d : ℕ = itemAt b i .district in
-      let busy = on-busy (recordAt b d) k in
-      rw (busy .1) (place d (s .items i h .belongs) (busy .0))
-
   pub forget-but : SoundBut w (forget w b)
   unfolding forget itemOn
   forget-but = record {
@@ -107,7 +100,7 @@ module _ (w : ℕ) (b : Book) (s : SoundBut w b) (t : Shaped w b) where
     districts = λ d h.
         district-stays w d _ _ _ _ (recordAt b d) (s .districts d h) (place d h)
         (λ k. seen-same d _ _ (ap (openAt c) (place d h k) ∙ itsRow d h k));
-    items = λ i h. item-stays w (b .districts) _ _ _ _ (itemAt b i) (s .items i h) refl (itemPlace i h);
+    items = λ i h. item-stays w (b .districts) _ _ _ _ (itemAt b i) (s .items i h) refl (item-place w b c (itemAt b i) (place _ (s .items i h .belongs)));
     opens = λ q h k. let e = still q (fate q h) k .0 in rw e (s .opens q h (rw e at k));
     differ = λ q h k p l same. let e = still q (fate q h) k .0 in other q h (rw e at k) p l (fate p (omega arith)) (same ∙ ap (λ (o : Open). o .number .0) e);
     pastDistricts = s .pastDistricts;

@@ -2,6 +2,7 @@
 use mathlib.Core.Path.{_≡_, refl, sym, _∙_, ap}
 use mathlib.Core.Bool.{Bool, true, false, cond, true≢false, and-true}
 use Prim.Native.Nat.{ℕ, _≤_, _<_}
+use native.Mathlib.Nat.{lt-of-lt-of-le}
 use native.Mathlib.Omega.{arith}
 use lib.Dec.{eqb}
 use lib.ListN.{length, length-set}
@@ -11,17 +12,16 @@ use Rattle.book.specs.declared.Record.{Record}
 use Rattle.book.specs.declared.Item.{Item}
 use Rattle.book.specs.declared.Open.{Open}
 use Rattle.book.specs.declared.Book.{Book}
-use Rattle.book.specs.Book.{mostDistricts, mostItems, noRecord, noOpen, voidItem, recordAt, itemAt, openAt, recordOn, itemOn, isOpen, placeOf, itemDepends, openOf}
+use Rattle.book.specs.Book.{mostItems, noRecord, noOpen, voidItem, recordAt, itemAt, openAt, recordOn, itemOn, isOpen, placeOf, itemDepends, openOf}
 use Rattle.book.specs.Records.{computingOn, busyOn}
 use Rattle.book.specs.Items.{there, concerned, drop, split}
 use Rattle.book.specs.GiveUp.{giveUpItem, marked, gaveUp}
 use Rattle.book.specs.Sound.{Sound}
 use Rattle.book.proofs.Laws.Rows.{length-rows, past-rows, each-row, getD-set}
-use Rattle.book.proofs.Laws.Sound.{place-named}
 use Rattle.book.proofs.Laws.Including.{including-other, including-lt}
 use Rattle.book.specs.Shaped.{ShapedItem, Shaped}
 use Rattle.book.proofs.Laws.Values.{give-up-item}
-use Rattle.book.proofs.Laws.But.{DistrictRow, ItemRow, OpenRow, SoundBut, sound-but, idle-district, Seen, seen-same, district-stays, item-stays, place-open, computing-on, busy-is}
+use Rattle.book.proofs.Laws.But.{DistrictRow, ItemRow, OpenRow, SoundBut, sound-but, idle-district, Seen, seen-same, seen-at, row-own, district-stays, item-stays, place-open, computing-on, busy-is}
 use Rattle.book.proofs.Laws.Changing.{change-but}
 use Rattle.book.proofs.Laws.Settling.{neither-depends, depends-neither, idle-row, split-sound, split-shaped, split-free, concerned-busy}
 
@@ -44,9 +44,6 @@ module _ (w : ℕ) (b : Book) (sound : Sound w b) (t : Shaped w b) (n d : ℕ) (
   s : SoundBut w b
   s = sound-but w b sound
 
-  few : (e : ℕ) → e < b .districts → e < mostDistricts
-  few e h = omega (arith, sound .fewDistricts)
-
   number : r .transaction .0 ≡ n
   number = busy-is n r on .1
 
@@ -56,7 +53,7 @@ module _ (w : ℕ) (b : Book) (sound : Sound w b) (t : Shaped w b) (n d : ℕ) (
   -- the records afterwards, and the places
   pub give-up-records : (e : ℕ) → recordAt (gaveUp w b n d) e ≡ cond (eqb e d) noRecord (recordAt b e)
   unfolding gaveUp
-  give-up-records e = getD-set (b .records) d noRecord noRecord e (omega (arith, few d l, t .records))
+  give-up-records e = getD-set (b .records) d noRecord noRecord e (omega (arith, l, sound .fewDistricts, t .records))
 
   -- ---- the transaction
 
@@ -69,7 +66,7 @@ module _ (w : ℕ) (b : Book) (sound : Sound w b) (t : Shaped w b) (n d : ℕ) (
   give-up-opens m =
       by-cases early
       (λ e. rw e (getD-set (b .«open») q (marked d o) noOpen m (omega (arith, t .places))))
-      (λ e. rw e (by-cases (eqb m q) (λ z. rw (z, eqb-true m q z)) (λ z. rw z)))
+      (λ e. rw e (row-own b q m))
 
   old : OpenRow (b .districts) (b .last .0) o
   old = s .opens q p (place-open w b n p)
@@ -85,12 +82,12 @@ module _ (w : ℕ) (b : Book) (sound : Sound w b) (t : Shaped w b) (n d : ℕ) (
       apart = λ k.
           by-cases (eqb f d)
           (λ m. absurd (true≢false (sym k ∙ rw (eqb-true f d m) (was .computingNotReady (computing-on n r e .0)))))
-          (λ m. including-other (o .gave) d f (few f h) m ∙ old .sets f h .apart k);
+          (λ m. including-other (o .gave) d f (lt-of-lt-of-le h (sound .fewDistricts)) m ∙ old .sets f h .apart k);
       readyTouched = old .sets f h .readyTouched;
       gaveTouched = λ k.
           by-cases (eqb f d)
           (λ m. rw (eqb-true f d m) (was .busyTouched (busy-is n r on .0)))
-          (λ m. old .sets f h .gaveTouched (sym (including-other (o .gave) d f (few f h) m) ∙ k));
+          (λ m. old .sets f h .gaveTouched (sym (including-other (o .gave) d f (lt-of-lt-of-le h (sound .fewDistricts)) m) ∙ k));
       completedReady = old .sets f h .completedReady;
     };
   }
@@ -103,14 +100,11 @@ module _ (w : ℕ) (b : Book) (sound : Sound w b) (t : Shaped w b) (n d : ℕ) (
   newSeen : (e : ℕ) → e < b .districts → eqb e d ≡ false → Seen e o new
   newSeen e h k =
       by-cases early
-      (λ z. rw z (record { touched = refl; ready = refl; gave = including-other (o .gave) d e (few e h) k }))
+      (λ z. rw z (record { touched = refl; ready = refl; gave = including-other (o .gave) d e (lt-of-lt-of-le h (sound .fewDistricts)) k }))
       (λ z. rw z (seen-same e o o refl))
 
   seen : (e m : ℕ) → e < b .districts → eqb e d ≡ false → Seen e (openAt b m) (openAt c m)
-  seen e m h k =
-      by-cases (eqb m q)
-      (λ z. rw (give-up-opens m, z, eqb-true m q z) (newSeen e h k))
-      (λ z. seen-same e (openAt b m) (openAt c m) (give-up-opens m ∙ rw z))
+  seen e m h k = seen-at b c q e new give-up-opens (newSeen e h k) m
 
   districts : (e : ℕ) → e < b .districts → DistrictRow w e (placeOf w b (recordAt c e .transaction .0)) (openAt c (placeOf w b (recordAt c e .transaction .0))) (recordAt c e)
   districts e h =
@@ -125,7 +119,7 @@ module _ (w : ℕ) (b : Book) (sound : Sound w b) (t : Shaped w b) (n d : ℕ) (
   settled x = let either : Item = split w q x in cond early (drop x) either
 
   onIt : (x : Item) → concerned b n d x ≡ there d x
-  onIt x = concerned-busy b n d (sound .phases d l) (place-named w b n p .1) x ∙ rw on (and-true (there d x))
+  onIt x = concerned-busy w b sound n d p l x ∙ rw on (and-true (there d x))
 
   itemThere : (x : Item) → there d x ≡ true → giveUpItem w b n d q early x ≡ settled x
   unfolding giveUpItem

@@ -10,16 +10,15 @@ use Rattle.conditions.proofs.Laws.Below.{by-cases}
 use Rattle.book.specs.declared.Record.{Record}
 use Rattle.book.specs.declared.Item.{Item}
 use Rattle.book.specs.declared.Book.{Book}
-use Rattle.book.specs.Book.{mostDistricts, mostItems, noRecord, voidItem, recordAt, itemAt, openAt, recordOn, itemOn, isOpen, placeOf, itemDepends, openOf}
+use Rattle.book.specs.Book.{mostItems, noRecord, voidItem, recordAt, itemAt, openAt, recordOn, itemOn, isOpen, placeOf, itemDepends, openOf}
 use Rattle.book.specs.Records.{busyOn, hearRecord}
 use Rattle.book.specs.Items.{there, concerned, install, drop, reduceItem}
 use Rattle.book.specs.Hear.{outcome, hearItem, heard}
 use Rattle.book.specs.Sound.{Sound}
 use Rattle.book.proofs.Laws.Rows.{length-rows, past-rows, each-row, getD-set}
-use Rattle.book.proofs.Laws.Sound.{place-named}
 use Rattle.book.specs.Shaped.{ShapedItem, Shaped}
 use Rattle.book.proofs.Laws.Values.{hear-item}
-use Rattle.book.proofs.Laws.But.{DistrictRow, ItemRow, SoundBut, sound-but, idle-district, item-stays, place-open}
+use Rattle.book.proofs.Laws.But.{DistrictRow, ItemRow, SoundBut, sound-but, idle-district, item-stays, row-own, place-open}
 use Rattle.book.proofs.Laws.Changing.{change-but}
 use Rattle.book.proofs.Laws.Settling.{neither-depends, depends-neither, drop-row, install-row, reduce-row, reduce-shaped, reduce-free-of, concerned-busy}
 
@@ -39,13 +38,10 @@ module _ (w : ℕ) (b : Book) (sound : Sound w b) (t : Shaped w b) (n d : ℕ) (
   s : SoundBut w b
   s = sound-but w b sound
 
-  few : (e : ℕ) → e < b .districts → e < mostDistricts
-  few e h = omega (arith, sound .fewDistricts)
-
   -- the records afterwards
   pub hear-records : (e : ℕ) → recordAt (heard w b n d) e ≡ cond (eqb e d) (hearRecord n (recordAt b d)) (recordAt b e)
   unfolding heard
-  hear-records e = getD-set (b .records) d (hearRecord n r) noRecord e (omega (arith, few d l, t .records))
+  hear-records e = getD-set (b .records) d (hearRecord n r) noRecord e (omega (arith, l, sound .fewDistricts, t .records))
 
   -- the record of a district that is not busy on it, also of another one, stays
   left : (e : ℕ) → (eqb e d ≡ true → busyOn n r ≡ false) → recordAt c e ≡ recordAt b e
@@ -60,7 +56,7 @@ module _ (w : ℕ) (b : Book) (sound : Sound w b) (t : Shaped w b) (n d : ℕ) (
 
   opens : (m : ℕ) → openAt c m ≡ cond (eqb m q) (openAt b q) (openAt b m)
   unfolding heard
-  opens m = by-cases (eqb m q) (λ z. rw (z, eqb-true m q z)) (λ z. rw z)
+  opens m = row-own b q m
 
   districts : (e : ℕ) → e < b .districts → DistrictRow w e (placeOf w b (recordAt c e .transaction .0)) (openAt b (placeOf w b (recordAt c e .transaction .0))) (recordAt c e)
   districts e h =
@@ -86,7 +82,7 @@ module _ (w : ℕ) (b : Book) (sound : Sound w b) (t : Shaped w b) (n d : ℕ) (
 
   -- it is on the transaction exactly where the district is
   onIt : (x : Item) → there d x ≡ true → concerned b n d x ≡ busyOn n r
-  onIt x k = concerned-busy b n d (sound .phases d l) (place-named w b n p .1) x ∙ rw k
+  onIt x k = concerned-busy w b sound n d p l x ∙ rw k
 
   onThere : (x : Item) → there d x ≡ true → busyOn n r ≡ true → itemOn c x ≡ 0
   unfolding itemOn recordOn

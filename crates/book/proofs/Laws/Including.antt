@@ -1,11 +1,11 @@
 -- A set of districts with one more district.
 use mathlib.Core.Path.{_≡_, sym, _∙_}
-use mathlib.Core.Bool.{true, false, cond}
+use mathlib.Core.Bool.{true, false, _||_, cond, or-true, or-false}
 use Prim.Native.Nat.{ℕ, _^_, _≤_, _<_}
 use native.Mathlib.Omega.{arith}
 use lib.Dec.{eqb, ltb}
 use lib.Pow.{pow-mono}
-use borrow.Author.Tests.{ltb-true, ltb-false, ne-eqb}
+use borrow.Author.Tests.{ltb-true, ltb-false, eqb-true, eqb-false, eq-eqb, ne-eqb}
 use Rattle.conditions.specs.Sets.{member}
 use Rattle.conditions.specs.Places.{withPlace}
 use Rattle.conditions.proofs.Laws.Below.{by-cases}
@@ -16,6 +16,16 @@ use Rattle.book.specs.Book.{mostDistricts, including}
 -- its districts
 pub member-including : (s d e : ℕ) → e < mostDistricts → member (including s d) e ≡ cond (eqb e d) true (member s e)
 member-including s d e h = member-place mostDistricts s d true e h
+
+-- those of s, or d
+pub including-either : (s d e : ℕ) → e < mostDistricts → member (including s d) e ≡ (member s e || eqb d e)
+including-either s d e h = member-including s d e h ∙ by-cases (eqb d e) here other
+  where
+    here : eqb d e ≡ true → cond (eqb e d) true (member s e) ≡ (member s e || eqb d e)
+    here q = rw (q, eq-eqb e d (sym (eqb-true d e q))) (sym (or-true (member s e)))
+
+    other : eqb d e ≡ false → cond (eqb e d) true (member s e) ≡ (member s e || eqb d e)
+    other q = rw (q, ne-eqb e d (λ r. eqb-false d e q (sym r))) (sym (or-false (member s e)))
 
 pub including-own : (s d : ℕ) → d < mostDistricts → member (including s d) d ≡ true
 including-own s d h = member-set mostDistricts s d true h

@@ -1,6 +1,6 @@
 -- The all-zero book is not sound; an opened book is.
-use mathlib.Core.Path.{_≡_, refl, _∙_, ap, ap₂}
-use mathlib.Core.Bool.{Bool, true, false, not, _||_, true≢false, false≢true}
+use mathlib.Core.Path.{_≡_, refl, ap, ap₂}
+use mathlib.Core.Bool.{true, false, _||_, false≢true}
 use mathlib.Core.List.{List, [], _∷_, _++_, map}
 use Prim.Native.Nat.{ℕ, zero, suc, _+_, _-_, _≤_, _<_}
 use native.Mathlib.Omega.{arith}
@@ -8,12 +8,10 @@ use lib.Dec.{leb, ltb}
 use lib.IntN.{ℤ}
 use lib.ListN.{length, getD, replicate}
 use borrow.Author.Tests.{ltb-true, leb-true}
-use Rattle.conditions.specs.Sets.{digit}
-use Rattle.conditions.proofs.Laws.Below.{by-cases, none-any}
-use Rattle.polyvalues.specs.Values.{inRange, equal}
+use Rattle.conditions.proofs.Laws.Below.{by-cases}
+use Rattle.polyvalues.specs.Values.{inRange}
 use Rattle.polyvalues.specs.Pairs.{depends, certain}
-use Rattle.polyvalues.specs.Polyvalues.{mostPairs, inUse, packed, sound as soundPolyvalue}
-use Rattle.polyvalues.specs.Operations.{different, together}
+use Rattle.polyvalues.specs.Polyvalues.{inUse, packed, sound as soundPolyvalue}
 use Rattle.polyvalues.proofs.Laws.Canon.{certain-canon}
 use Rattle.polyvalues.proofs.Laws.Depends.{free-canon}
 use Rattle.polyvalues.proofs.Laws.WellFormed.{certain-well-formed}
@@ -21,13 +19,14 @@ use Rattle.polyvalues.proofs.Laws.Packed.{inUse-packed, packed-sound}
 use Rattle.book.specs.declared.Book.{Book}
 use Rattle.book.specs.declared.Item.{Item}
 use Rattle.book.specs.declared.Opening.{Opening}
-use Rattle.book.specs.declared.Record.{Record}
-use Rattle.book.specs.Book.{mostDistricts, mostItems, noRecord, noItem, noOpen, noBook, voidItem, recordAt, itemAt, openAt, idle, recordOn, itemOn, isOpen, itemDepends, someDepends}
+use Rattle.book.specs.Book.{mostDistricts, mostItems, noRecord, noItem, noOpen, noBook, voidItem, recordAt, itemAt, openAt, recordOn, itemOn, isOpen, itemDepends}
 use Rattle.book.specs.Sound.{Sound}
 use Rattle.book.specs.SoundTest.{sound}
 use Rattle.book.specs.Open.{goodItems, goodOpening, openedItem, openedBook, opened}
 use Rattle.book.proofs.Laws.Same.{three, five}
 use Rattle.book.proofs.Laws.Sound.{test-sound}
+use Rattle.book.proofs.Laws.But.{idle-district, but-sound}
+use Rattle.book.proofs.Laws.Settling.{idle-row}
 
 -- "the all-zero book, which is not sound"
 pub no-book-unsound : (w : ℕ) → sound w (noBook w) ≡ false
@@ -39,20 +38,11 @@ no-book-unsound w = by-cases (sound w (noBook w)) (λ e. let some : 1 ≤ 0 = te
 certain-free : (w : ℕ) (v : ℤ) (q : ℕ) → depends w (inUse (packed (certain w v))) q ≡ false
 certain-free w v q = rw (inUse-packed (certain w v), certain-canon w v) (free-canon w (λ a. v) q (λ a h. refl))
 
-digit-le : (t : Bool) → digit t ≤ 1
-digit-le true = omega arith
-digit-le false = omega arith
-
-certain-few : (w : ℕ) (v : ℤ) → together (inUse (packed (certain w v))) (inUse (packed (certain w v))) ≤ mostPairs
-unfolding certain together different
-certain-few w v = rw (inUse-packed (certain w v)) (omega (arith, digit-le (not (equal v v || false))))
-
 record Fresh (w districts : ℕ) (x : Item) : Type 0 where
   belongs : x .district < districts
   held : soundPolyvalue w (x .held) ≡ true
   same : x .pending ≡ x .held
   free : (q : ℕ) → itemDepends w x q ≡ false
-  few : together (inUse (x .held)) (inUse (x .pending)) ≤ mostPairs
 
 fresh : (w districts : ℕ) (x : Opening) → x .district < districts → inRange (x .value) ≡ true → Fresh w districts (openedItem w x)
 unfolding openedItem itemDepends
@@ -61,7 +51,6 @@ fresh w districts x h e = record {
   held = packed-sound w (certain w (x .value)) (certain-well-formed w (x .value) e);
   same = refl;
   free = λ q. ap₂ _||_ (certain-free w (x .value) q) (certain-free w (x .value) q);
-  few = certain-few w (x .value);
 }
 
 fresh-at : (w districts : ℕ) (xs : List Opening) (past : List Item) → goodItems districts xs ≡ true → (i : ℕ) → i < length xs
@@ -91,7 +80,7 @@ past-at w (x ∷ xs) n (suc i) l h = past-at w xs n i (omega arith) (omega arith
 -- ---- the book
 
 pub opened-sound : (w districts : ℕ) (xs : List Opening) → goodOpening districts xs ≡ true → Sound w (opened w districts xs)
-unfolding goodOpening opened openedBook recordOn itemOn someDepends
+unfolding goodOpening opened openedBook recordOn itemOn
 opened-sound w districts xs e = rw e book
   where
     b : Book
@@ -115,48 +104,22 @@ opened-sound w districts xs e = rw e book
     shut : {P : Type 0} (q : ℕ) → isOpen (openAt b q) ≡ true → P
     shut q h = absurd (false≢true (rw (opens q) at h))
 
-    still : {P : Type 0} (d : ℕ) → idle (recordAt b d) ≡ false → P
-    still d h = absurd (true≢false (rw (records d) at h))
-
     on : (x : Item) → itemOn b x ≡ 0
     on x = ap recordOn (records (x .district))
 
-    phase : (d : ℕ) → recordAt b d .phase ≡ 0
-    phase d = ap (λ (r : Record). r .phase) (records d)
-
     book : Sound w b
-    book = record {
+    book = but-sound w b (record {
       someDistricts = leb-true 1 districts (t .0);
       fewDistricts = leb-true districts mostDistricts (t .1);
       someItems = leb-true 1 (length xs) (t .2);
       fewItems = few;
-      belongs = λ i h. items i h .belongs;
-      held = λ i h. items i h .held;
-      pending = λ i h. ap (soundPolyvalue w) (items i h .same) ∙ items i h .held;
-      phases = λ d h. omega (arith, phase d);
       last = omega arith;
-      touched = λ q h k. shut q k;
-      ready = λ q h k. shut q k;
-      gave = λ q h k. shut q k;
-      decisions = λ q h k. shut q k;
+      districts = λ d h. rw (records d) (idle-district w d _ _);
+      items = λ i h. let x = items i h in idle-row w districts _ _ (itemAt b i) (x .belongs) (x .held) (x .same) (on (itemAt b i));
+      opens = λ q h k. shut q k;
+      differ = λ q h k. shut q k;
       pastDistricts = λ d h k. records d;
       pastItems = λ i h k. past-at w xs (mostItems - length xs) i k (omega arith);
       free = λ q h k. opens q;
-      freeUnused = λ q h k. none-any (length xs) (λ i. itemDepends w (itemAt b i) q) (λ i l. items i l .free q);
-      differ = λ q h k. shut q k;
-      given = λ q h k. shut q k;
-      idleNone = λ d h k. ap (λ (r : Record). r .transaction .0) (records d);
-      decidedNeeded = λ q h k. shut q k;
-      busyOpen = λ d h k. still d k;
-      busyTouched = λ d h k. still d k;
-      waitingReady = λ d h k. absurd (omega (arith, phase d));
-      computingNotReady = λ d h k. absurd (omega (arith, phase d));
-      computingNotGave = λ d h k. absurd (omega (arith, phase d));
-      apart = λ q h k. shut q k;
-      readyTouched = λ q h k. shut q k;
-      gaveTouched = λ q h k. shut q k;
-      completedReady = λ q h k. shut q k;
-      idleSame = λ i h k. items i h .same;
-      ownFree = λ i h k. absurd (omega (arith, on (itemAt b i)));
-      fewTogether = λ i h. items i h .few;
-    }
+      freeUnused = λ q h k i l. items i l .free q;
+    }) (λ q h k. shut q k)

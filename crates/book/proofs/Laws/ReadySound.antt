@@ -2,6 +2,7 @@
 use mathlib.Core.Path.{_≡_, refl, sym, _∙_, ap}
 use mathlib.Core.Bool.{true, false, cond, false≢true}
 use Prim.Native.Nat.{ℕ, _<_}
+use native.Mathlib.Nat.{lt-of-lt-of-le}
 use native.Mathlib.Omega.{arith}
 use lib.Dec.{eqb}
 use lib.ListN.{length-set}
@@ -11,13 +12,13 @@ use Rattle.book.specs.declared.Record.{Record}
 use Rattle.book.specs.declared.Item.{Item}
 use Rattle.book.specs.declared.Open.{Open}
 use Rattle.book.specs.declared.Book.{Book}
-use Rattle.book.specs.Book.{mostDistricts, noRecord, noOpen, recordAt, itemAt, openAt, idle, recordOn, itemOn, placeOf, openOf}
+use Rattle.book.specs.Book.{noRecord, noOpen, recordAt, itemAt, openAt, idle, recordOn, itemOn, placeOf, openOf}
 use Rattle.book.specs.Records.{computingOn, readyRecord}
 use Rattle.book.specs.Ready.{reported, readied}
 use Rattle.book.proofs.Laws.Including.{including-own, including-other, including-lt}
 use Rattle.book.specs.Shaped.{Shaped}
 use Rattle.book.proofs.Laws.Rows.{getD-set}
-use Rattle.book.proofs.Laws.But.{DistrictRow, OpenRow, SoundBut, Seen, seen-same, district-stays, item-stays, place-open, computing-on}
+use Rattle.book.proofs.Laws.But.{DistrictRow, OpenRow, SoundBut, Seen, seen-at, district-stays, item-stays, place-open, computing-on}
 use Rattle.book.proofs.Laws.Changing.{change-but}
 
 pub ready-shaped : (w : ℕ) (b : Book) (n d : ℕ) → Shaped w b → Shaped w (readied w b n d)
@@ -42,9 +43,6 @@ module _ (w : ℕ) (b : Book) (s : SoundBut w b) (t : Shaped w b) (n d : ℕ) (p
   abbrev c : Book
   c = readied w b n d
 
-  few : (e : ℕ) → e < b .districts → e < mostDistricts
-  few e h = omega (arith, s .fewDistricts)
-
   busy : idle r ≡ false
   busy = ap (λ (m : ℕ). eqb m 0) (computing-on n r on .0)
 
@@ -58,7 +56,7 @@ module _ (w : ℕ) (b : Book) (s : SoundBut w b) (t : Shaped w b) (n d : ℕ) (p
   -- the records afterwards, and the places
   pub ready-records : (e : ℕ) → recordAt (readied w b n d) e ≡ cond (eqb e d) (readyRecord (recordAt b d)) (recordAt b e)
   unfolding readied
-  ready-records e = getD-set (b .records) d (readyRecord r) noRecord e (omega (arith, few d l, t .records))
+  ready-records e = getD-set (b .records) d (readyRecord r) noRecord e (omega (arith, l, s .fewDistricts, t .records))
 
   pub ready-opens : (m : ℕ) → openAt (readied w b n d) m ≡ cond (eqb m (placeOf w b n)) (reported d (openOf w b n)) (openAt b m)
   unfolding readied
@@ -79,16 +77,16 @@ module _ (w : ℕ) (b : Book) (s : SoundBut w b) (t : Shaped w b) (n d : ℕ) (p
       apart = λ k.
           by-cases (eqb e d)
           (λ m. rw (eqb-true e d m) (was .computingNotGave (computing-on n r on .0)))
-          (λ m. old .sets e h .apart (sym (including-other (o .ready) d e (few e h) m) ∙ k));
+          (λ m. old .sets e h .apart (sym (including-other (o .ready) d e (lt-of-lt-of-le h (s .fewDistricts)) m) ∙ k));
       readyTouched = λ k.
           by-cases (eqb e d)
           (λ m. rw (eqb-true e d m) (was .busyTouched busy))
-          (λ m. old .sets e h .readyTouched (sym (including-other (o .ready) d e (few e h) m) ∙ k));
+          (λ m. old .sets e h .readyTouched (sym (including-other (o .ready) d e (lt-of-lt-of-le h (s .fewDistricts)) m) ∙ k));
       gaveTouched = old .sets e h .gaveTouched;
       completedReady = λ v k.
           by-cases (eqb e d)
-          (λ m. rw (eqb-true e d m) (including-own (o .ready) d (few d l)))
-          (λ m. including-other (o .ready) d e (few e h) m ∙ old .sets e h .completedReady v k);
+          (λ m. rw (eqb-true e d m) (including-own (o .ready) d (lt-of-lt-of-le l (s .fewDistricts))))
+          (λ m. including-other (o .ready) d e (lt-of-lt-of-le h (s .fewDistricts)) m ∙ old .sets e h .completedReady v k);
     };
   }
 
@@ -100,16 +98,13 @@ module _ (w : ℕ) (b : Book) (s : SoundBut w b) (t : Shaped w b) (n d : ℕ) (p
     idleNone = λ k. absurd (false≢true k);
     busyOpen = λ k. p;
     busyTouched = λ k. was .busyTouched busy;
-    waitingReady = λ k. including-own (o .ready) d (few d l);
+    waitingReady = λ k. including-own (o .ready) d (lt-of-lt-of-le l (s .fewDistricts));
     computingNotReady = λ k. absurd (omega arith);
     computingNotGave = λ k. absurd (omega arith);
   }
 
   seen : (e m : ℕ) → e < b .districts → eqb e d ≡ false → Seen e (openAt b m) (openAt c m)
-  seen e m h k =
-      by-cases (eqb m q)
-      (λ z. rw (ready-opens m, z, eqb-true m q z) (record { touched = refl; ready = including-other (o .ready) d e (few e h) k; gave = refl }))
-      (λ z. seen-same e (openAt b m) (openAt c m) (ready-opens m ∙ rw z))
+  seen e m h k = seen-at b c q e (reported d o) ready-opens (record { touched = refl; ready = including-other (o .ready) d e (lt-of-lt-of-le h (s .fewDistricts)) k; gave = refl }) m
 
   districts : (e : ℕ) → e < b .districts → DistrictRow w e (placeOf w b (recordAt c e .transaction .0)) (openAt c (placeOf w b (recordAt c e .transaction .0))) (recordAt c e)
   districts e h =

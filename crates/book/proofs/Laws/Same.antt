@@ -115,10 +115,6 @@ zero-record r e =
     let number = eqb-true (r .transaction .0) 0 (and-right (eqb (r .phase) 0) _ e) in
     λ k. record { phase = phase k; transaction = record { 0 = number k } }
 
-pub record-zero : (r : Record) → r ≡ noRecord → zeroRecord r ≡ true
-unfolding zeroRecord
-record-zero r e = ap (λ (x : Record). zeroRecord x) e
-
 pub zero-open : (o : Open) → zeroOpen o ≡ true → o ≡ noOpen
 unfolding zeroOpen
 zero-open o e =
@@ -129,7 +125,3 @@ zero-open o e =
     let gave = eqb-true (o .gave) 0 (t .3) in
     let decision = eqb-true (o .decision) 0 (t .4) in
     λ k. record { number = record { 0 = number k }; touched = touched k; ready = ready k; gave = gave k; decision = decision k }
-
-pub open-zero : (o : Open) → o ≡ noOpen → zeroOpen o ≡ true
-unfolding zeroOpen
-open-zero o e = ap (λ (x : Open). zeroOpen x) e

@@ -1,7 +1,7 @@
 -- What becomes of one item: where it is dropped, split, installed or reduced it stays sound, keeps its lengths, and depends on no other places.
 use mathlib.Core.Path.{_≡_, refl, sym, _∙_, ap, ap₂}
 use mathlib.Core.Bool.{Bool, true, false, _&&_, _||_, true≢false}
-use Prim.Native.Nat.{ℕ, _≤_, _<_}
+use Prim.Native.Nat.{ℕ, _<_}
 use native.Mathlib.Omega.{arith}
 use borrow.Author.Tests.{eqb-true, eq-eqb, ne-eqb}
 use Rattle.conditions.proofs.Laws.Below.{or-left, or-right, by-cases}
@@ -15,11 +15,13 @@ use Rattle.polyvalues.proofs.Laws.Packed.{inUse-packed, packed-sound, sound-wel
 use Rattle.book.specs.declared.Record.{Record}
 use Rattle.book.specs.declared.Item.{Item}
 use Rattle.book.specs.declared.Book.{Book}
-use Rattle.book.specs.Book.{recordAt, recordOn, itemOn, itemDepends}
+use Rattle.book.specs.Book.{recordAt, recordOn, itemOn, placeOf, itemDepends}
 use Rattle.book.specs.Records.{busyOn}
 use Rattle.book.specs.Items.{there, concerned, install, drop, split, reduceItem}
 use Rattle.book.proofs.Laws.Room.{together-swap, together-self, together-reduce}
 use Rattle.book.specs.Shaped.{ShapedItem}
+use Rattle.book.specs.Sound.{Sound}
+use Rattle.book.proofs.Laws.Sound.{place-named}
 use Rattle.book.proofs.Laws.But.{ItemRow, on-busy, busy-on, busy-is, is-busy}
 
 -- ---- what depends
@@ -121,14 +123,14 @@ module _ (w districts n q : ℕ) (x : Item) (f : ItemRow w districts n q x) wher
 -- ---- who is on a transaction
 
 -- the items of a district are on the transaction that the district is busy on
-pub concerned-busy : (b : Book) (n d : ℕ) → recordAt b d .phase ≤ 2 → 1 ≤ n → (x : Item) → concerned b n d x ≡ (there d x && busyOn n (recordAt b d))
+pub concerned-busy : (w : ℕ) (b : Book) → Sound w b → (n d : ℕ) → placeOf w b n < w → d < b .districts → (x : Item) → concerned b n d x ≡ (there d x && busyOn n (recordAt b d))
 unfolding concerned itemOn
-concerned-busy b n d h l x =
+concerned-busy w b s n d p l x =
     let r : Record = recordAt b d in
     by-cases (there d x)
     (λ k. by-cases (busyOn n r)
     (λ z. rw (k, eqb-true (x .district) d k, z, busy-on r (busy-is n r z .0)) (eq-eqb (r .transaction .0) n (busy-is n r z .1)))
     (λ z. rw (k, eqb-true (x .district) d k, z) (ne-eqb (recordOn r) n (λ e.
-    let busy = on-busy r (omega arith) in
-    true≢false (sym (is-busy n r h (busy .0) (sym (busy .1) ∙ e)) ∙ z)))))
+    let busy = on-busy r (omega (arith, place-named w b n p .1)) in
+    true≢false (sym (is-busy n r (s .phases d l) (busy .0) (sym (busy .1) ∙ e)) ∙ z)))))
     (λ k. rw k)

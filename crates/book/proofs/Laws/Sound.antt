@@ -17,10 +17,10 @@ use Rattle.book.specs.declared.Book.{Book}
 use Rattle.book.specs.Book.{mostDistricts, mostItems, lastNumber, noItem, recordAt, itemAt, openAt, idle, waiting, itemOn, isOpen, named, placeOf, recordOn, itemDepends, someDepends, openOf}
 use Rattle.book.specs.Forget.{kept}
 use Rattle.book.specs.Sound.{Sound}
-use Rattle.book.specs.SoundTest.{zeroOpen, soundBusy, soundRecord, soundDistrict, soundPending, soundRow, soundItem, soundAt, soundOpen, soundPlace, sound}
+use Rattle.book.specs.SoundTest.{zeroRecord, zeroOpen, soundBusy, soundRecord, soundDistrict, soundPending, soundRow, soundItem, soundAt, soundOpen, soundPlace, sound}
 use Rattle.book.proofs.Laws.But.{DistrictRow, ItemRow, SetsAt, OpenRow, sound-but, but-sound}
 use Rattle.book.proofs.Laws.Forget.{kept-needed, needed-kept}
-use Rattle.book.proofs.Laws.Same.{three, five, eight, same-polyvalue, polyvalue-same, same-item, item-same, zero-record, record-zero, zero-open, open-zero}
+use Rattle.book.proofs.Laws.Same.{three, five, eight, same-polyvalue, polyvalue-same, same-item, item-same, zero-record, zero-open}
 
 -- a test of two cases, in the case that holds
 if-true : (t : Bool) (x y : Bool) → cond t x y ≡ true → t ≡ true → x ≡ true
@@ -199,7 +199,7 @@ test-sound w b e =
     (λ q h k. kept-needed w b q (openAt b q) (used q h k .stays))
 
 pub sound-test : (w : ℕ) (b : Book) → Sound w b → sound w b ≡ true
-unfolding sound soundDistrict soundItem soundPlace
+unfolding sound soundDistrict soundItem soundPlace zeroRecord zeroOpen
 sound-test w b s =
     let t = sound-but w b s in
     ap₂ _&&_ (ap₂ _&&_ (ap₂ _&&_ (ap₂ _&&_ (ap₂ _&&_ (ap₂ _&&_ (ap₂ _&&_
@@ -211,7 +211,7 @@ sound-test w b s =
     (all-of mostDistricts (soundDistrict w b) (λ d l.
     if-both (ltb d (b .districts)) _ _
     (λ e. record-test w b d (recordAt b d) (t .districts d (ltb-true d (b .districts) e)))
-    (λ e. record-zero (recordAt b d) (s .pastDistricts d l (omega (arith, ltb-false d (b .districts) e)))))))
+    (λ e. ap zeroRecord (s .pastDistricts d l (omega (arith, ltb-false d (b .districts) e)))))))
     (all-of mostItems (soundItem w b) (λ i l.
     if-both (ltb i (b .count)) _ _
     (λ e. row-test w b (itemAt b i) (t .items i (ltb-true i (b .count) e)))
@@ -219,7 +219,7 @@ sound-test w b s =
     (all-of w (soundPlace w b) (λ q l.
     if-both (isOpen (openAt b q)) _ _
     (λ e. open-test w b q (openAt b q) (record { row = t .opens q l e; differ = s .differ q l e; stays = needed-kept w b q (openAt b q) (s .decidedNeeded q l e) }))
-    (λ e. ap₂ _&&_ (open-zero (openAt b q) (s .free q l e)) (ap not (s .freeUnused q l e)))))
+    (λ e. ap₂ _&&_ (ap zeroOpen (s .free q l e)) (ap not (s .freeUnused q l e)))))
 
 -- ---- what a sound book is read by
 

@@ -13,6 +13,7 @@ use Rattle.polyvalues.specs.declared.polyvalue.Pair.{Pair}
 use Rattle.polyvalues.specs.declared.polyvalue.Polyvalue.{Polyvalue}
 use Rattle.polyvalues.specs.Pairs.{at}
 use Rattle.polyvalues.specs.Polyvalues.{Complete, inUse, packed}
+use Rattle.polyvalues.specs.Simplify.{canon}
 use Rattle.polyvalues.specs.Operations.{reduce, select}
 use Rattle.polyvalues.proofs.Laws.Canon.{at-canon}
 use Rattle.polyvalues.proofs.Laws.Operations.{reduce-canon, select-canon}
@@ -40,18 +41,16 @@ valueUnder v a = at (inUse v) a
 
 -- ---- one polyvalue
 
-packed-at : (ps : List Pair) (a : ℕ) → valueUnder (packed ps) a ≡ at ps a
-packed-at ps a = ap (λ (qs : List Pair). at qs a) (inUse-packed ps)
+-- of one that is made of its values
+pub made-at : (w : ℕ) (f : ℕ → ℤ) (ps : List Pair) → ps ≡ canon w f → (a : ℕ) → a < 2 ^ w → valueUnder (packed ps) a ≡ f a
+made-at w f ps e a h = ap (λ (qs : List Pair). at qs a) (inUse-packed ps ∙ e) ∙ at-canon w f a h
 
 reduce-at : (w q : ℕ) (o : Bool) (ps : List Pair) → Complete w ps → (a : ℕ) → a < 2 ^ w → valueUnder (packed (reduce w q o ps)) a ≡ at ps (withPlace w a q o)
-reduce-at w q o ps c a h =
-    packed-at (reduce w q o ps) a ∙ ap (λ (qs : List Pair). at qs a) (reduce-canon w q o ps c) ∙ at-canon w (λ a. at ps (withPlace w a q o)) a h
+reduce-at w q o ps c = made-at w (λ a. at ps (withPlace w a q o)) (reduce w q o ps) (reduce-canon w q o ps c)
 
 select-at : (w q : ℕ) (done gone : List Pair) → Complete w done → Complete w gone → (a : ℕ) → a < 2 ^ w
     → valueUnder (packed (select w q done gone)) a ≡ cond (member a q) (at done a) (at gone a)
-select-at w q done gone c d a h =
-    packed-at (select w q done gone) a ∙ ap (λ (qs : List Pair). at qs a) (select-canon w q done gone c d)
-    ∙ at-canon w (λ a. cond (member a q) (at done a) (at gone a)) a h
+select-at w q done gone c d = made-at w (λ a. cond (member a q) (at done a) (at gone a)) (select w q done gone) (select-canon w q done gone c d)
 
 -- ---- the events
 
@@ -98,7 +97,7 @@ module _ (w : ℕ) (b : Book) (s : Sound w b) (t : Shaped w b) where
   begin-pending xs i h a l =
       ap (λ (x : Item). valueUnder (x .pending) a) (begin-item xs i h)
       ∙ by-cases (touches xs i)
-      (λ e. rw e (packed-at (results w b xs i) a ∙ at-canon w (λ a. run xs (heldAt b a) i) a l))
+      (λ e. rw e (made-at w (λ a. run xs (heldAt b a) i) (results w b xs i) refl a l))
       (λ e. rw e)
 
   -- ---- give up

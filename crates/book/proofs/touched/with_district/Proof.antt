@@ -6,7 +6,7 @@ use native.Mathlib.Omega.{arith}
 use lib.Dec.{eqb}
 use borrow.Author.Tests.{not-true, not-false, ne-eqb}
 use Rattle.conditions.specs.Sets.{member}
-use Rattle.book.proofs.Districts.{including-either}
+use Rattle.book.proofs.Laws.Including.{including-either}
 use Rattle.book.proofs.touched.with_district.Statement.{statement}
 use Rattle.book.proofs.touched.with_district.Tie as tie
 
