@@ -1,16 +1,16 @@
 -- Openings in rows: what holding them tells, the turns of the loop over them, and the book that is made of them.
 use mathlib.Core.Path.{_≡_, sym, ap, _∙_}
 use mathlib.Core.Bool.{Bool, true, false, not, _&&_}
-use mathlib.Core.List.{List, _∷_, _++_, map}
+use mathlib.Core.List.{List, _++_, map}
 use Prim.Native.Nat.{ℕ, suc, _-_, _≤_, _<_}
 use native.Mathlib.Omega.{arith}
 use denote.Shadow.{shadow}
 use lib.IntN.{pos}
-use lib.ListN.{length, getD, take, drop, replicate, length-map, length-take, drop-of-length-le}
-use lib.Seq.{drop-cons, getD-take}
+use lib.ListN.{length, getD, drop, replicate, length-map, length-take}
 use mir.Val.{Val}
 use borrow.Author.Tests.{not-false, not-true}
 use Rattle.conditions.specs.Places.{places}
+use Rattle.conditions.proofs.Laws.Lists.{drop-take}
 use Rattle.book.specs.declared.Book.{Book}
 use Rattle.book.specs.declared.Item.{Item}
 use Rattle.book.specs.declared.Opening.{Opening}
@@ -38,26 +38,18 @@ pub openings-count : {t : Openings} → Held t → t .count ≤ mostItems → le
 unfolding openingsOf
 openings-count {t} h few = omega (arith, length-take (t .count) (t .items), items-long h)
 
-openings-more : (t : Openings) (i : ℕ) → i < length (openingsOf t) → drop i (openingsOf t) ≡ getD (t .items) i noOpening ∷ drop (suc i) (openingsOf t)
-unfolding openingsOf
-openings-more t i h =
-    drop-cons (take (t .count) (t .items)) i noOpening h
-    ∙ ap (λ (x : Opening). x ∷ drop (suc i) (take (t .count) (t .items))) (getD-take (t .count) (t .items) i noOpening (omega (arith, length-take (t .count) (t .items))))
-
 -- item i is not good, or the items after it decide
 module _ (districts : ℕ) (t : Openings) (i : ℕ) (h : i < length (openingsOf t)) {r target : Bool}
     (left : goodItems districts (drop i (openingsOf t)) ≡ target) (e : r ≡ goodItem districts (getD (t .items) i noOpening)) where
   here : (r && goodItems districts (drop (suc i) (openingsOf t))) ≡ target
-  here = ap (λ (b : Bool). b && goodItems districts (drop (suc i) (openingsOf t))) e ∙ sym (ap (goodItems districts) (openings-more t i h)) ∙ left
+  unfolding openingsOf
+  here = ap (λ (b : Bool). b && goodItems districts (drop (suc i) (openingsOf t))) e ∙ rw (drop-take (t .count) (t .items) i noOpening h) at left
 
   pub bad-found : not r ≡ true → false ≡ target
   bad-found k = sym (ap (λ (b : Bool). b && goodItems districts (drop (suc i) (openingsOf t))) (not-true r k)) ∙ here
 
   pub good-later : not r ≡ false → goodItems districts (drop (suc i) (openingsOf t)) ≡ target
   good-later k = sym (ap (λ (b : Bool). b && goodItems districts (drop (suc i) (openingsOf t))) (not-false r k)) ∙ here
-
-pub good-done : (districts : ℕ) (xs : List Opening) (i : ℕ) → length xs ≤ i → goodItems districts (drop i xs) ≡ true
-good-done districts xs i h = ap (goodItems districts) (drop-of-length-le xs h)
 
 -- ---- the book, where they are not too many
 

@@ -1,6 +1,6 @@
--- Programs in rows: what holding one tells of it, how bytes are read into one, and the turns of the loops over its steps.
+-- Programs in rows: what holding one tells of it, how bytes are read into one, and its steps in use.
 use mathlib.Core.Path.{_≡_, sym, ap, ap₂, _∙_}
-use mathlib.Core.Bool.{Bool, true, false, not, _||_}
+use mathlib.Core.Bool.{false, not, _||_}
 use mathlib.Core.List.{List, [], _∷_, _++_, append-assoc}
 use Prim.Native.Nat.{ℕ, suc, _+_, _-_, _*_, _%_, _≤_, _<_, min}
 use native.Mathlib.Nat.{add-comm}
@@ -8,11 +8,12 @@ use native.Mathlib.Omega.{arith}
 use denote.Shadow.{shadow}
 use lib.Dec.{eqb}
 use lib.IntN.{ℤ}
-use lib.ListN.{length, getD, take, drop, set, replicate, length-map, length-take, drop-of-length-le}
-use lib.Seq.{length-take-le, take-length, drop-cons, getD-take, take-append-seam, take-suc, set-at}
+use lib.ListN.{length, getD, take, drop, set, replicate, length-map, length-take}
+use lib.Seq.{length-take-le, take-length, take-append-seam, take-suc, set-at}
 use mir.Val.{Val}
 use borrow.Author.Tests.{ltb-false}
 use Rattle.conditions.proofs.Laws.Below.{or-left, or-right}
+use Rattle.conditions.proofs.Laws.Lists.{take-row, drop-take}
 use Rattle.polyvalues.specs.Values.{ofBytes}
 use Rattle.book.specs.declared.Step.{Step}
 use Rattle.book.specs.declared.program.Program.{Program}
@@ -83,26 +84,12 @@ steps-count p = length-take (p .count) (p .steps)
 
 step-row : (p : Program) (i : ℕ) → i < length (stepsOf p) → getD (stepsOf p) i noStep ≡ getD (p .steps) i noStep
 unfolding stepsOf
-step-row p i h = getD-take (p .count) (p .steps) i noStep (omega (arith, steps-count p))
+step-row p i h = take-row (p .count) (p .steps) i noStep h
 
 -- every step in use is inside the table
 pub inside-row : (p : Program) (i : ℕ) → someStep (outside mostItems) (stepsOf p) ≡ false → i < length (stepsOf p) → outside mostItems (getD (p .steps) i noStep) ≡ false
 inside-row p i e h = rw (sym (step-row p i h)) (some-none (outside mostItems) (stepsOf p) i e h)
 
 pub steps-more : (p : Program) (i : ℕ) → i < length (stepsOf p) → drop i (stepsOf p) ≡ getD (p .steps) i noStep ∷ drop (suc i) (stepsOf p)
-steps-more p i h = drop-cons (stepsOf p) i noStep h ∙ ap (λ (x : Step). x ∷ drop (suc i) (stepsOf p)) (step-row p i h)
-
--- step i passes the test, or the steps after it decide
-module _ (f : Step → Bool) (p : Program) (i : ℕ) (h : i < length (stepsOf p)) {r target : Bool}
-    (left : someStep f (drop i (stepsOf p)) ≡ target) (e : r ≡ f (getD (p .steps) i noStep)) where
-  here : (r || someStep f (drop (suc i) (stepsOf p))) ≡ target
-  here = ap (λ (b : Bool). b || someStep f (drop (suc i) (stepsOf p))) e ∙ sym (ap (someStep f) (steps-more p i h)) ∙ left
-
-  pub some-found : r ≡ true → true ≡ target
-  some-found t = sym (ap (λ (b : Bool). b || someStep f (drop (suc i) (stepsOf p))) t) ∙ here
-
-  pub some-later : r ≡ false → someStep f (drop (suc i) (stepsOf p)) ≡ target
-  some-later t = sym (ap (λ (b : Bool). b || someStep f (drop (suc i) (stepsOf p))) t) ∙ here
-
-pub some-done : (f : Step → Bool) (xs : List Step) (i : ℕ) → length xs ≤ i → someStep f (drop i xs) ≡ false
-some-done f xs i h = ap (someStep f) (drop-of-length-le xs h)
+unfolding stepsOf
+steps-more p i h = drop-take (p .count) (p .steps) i noStep h

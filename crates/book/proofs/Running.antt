@@ -7,7 +7,7 @@ use native.Mathlib.Omega.{arith}
 use lib.IntN.{ℤ, pos, _+ℤ_}
 use lib.ListN.{length, getD, drop, drop-of-length-le}
 use borrow.Author.Tests.{eq-eqb, ne-eqb}
-use Rattle.conditions.proofs.Laws.Below.{by-cases}
+use Rattle.conditions.proofs.Laws.Below.{by-cases, cond-same}
 use Rattle.polyvalues.specs.declared.value.Added.the-variants.{Value, Declined}
 use Rattle.polyvalues.specs.Values.{inRange, below, sum, sumAs}
 use Rattle.book.specs.declared.Step.{Step}
@@ -24,10 +24,6 @@ use Rattle.book.proofs.Laws.Touched.{names-past}
 use Rattle.book.proofs.Reading.{steps-more}
 
 -- ---- a step on a state
-
-cond-same : (b : Bool) (s : ℕ → ℤ) → cond b s s ≡ s
-cond-same true s = refl
-cond-same false s = refl
 
 cond-not : (b : Bool) (s t : ℕ → ℤ) → cond b s t ≡ cond (not b) t s
 cond-not true s t = refl
@@ -114,10 +110,10 @@ running-start p s l = record { long = l; number = refl; values = refl }
 module _ (p : Program) (s t : State) (i : ℕ) (h : i < length (stepsOf p)) (now-at : Running p s i t)
     {r : Stepped} (e : r ≡ stepped (getD (p .steps) i noStep) (stateOf t)) where
   more-number : declinedFrom (suc i) (getD (p .steps) i noStep ∷ drop (suc i) (stepsOf p)) (stateOf t) ≡ declined (stepsOf p) (stateOf s)
-  more-number = ap (λ (xs : List Step). declinedFrom (suc i) xs (stateOf t)) (sym (steps-more p i h)) ∙ now-at .number
+  more-number = rw (steps-more p i h) at (now-at .number)
 
   more-values : afterAll (getD (p .steps) i noStep ∷ drop (suc i) (stepsOf p)) (stateOf t) ≡ afterAll (stepsOf p) (stateOf s)
-  more-values = ap (λ (xs : List Step). afterAll xs (stateOf t)) (sym (steps-more p i h)) ∙ now-at .values
+  more-values = rw (steps-more p i h) at (now-at .values)
 
   test : r .declines ≡ declines (getD (p .steps) i noStep) (stateOf t)
   unfolding stepped

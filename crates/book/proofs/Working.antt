@@ -4,12 +4,12 @@ use mathlib.Core.Bool.{Bool, true, false, not, _&&_, _||_, true≢false, or-true
 use mathlib.Core.List.{List, []}
 use Prim.Native.Nat.{ℕ, suc, _^_, _≤_, _<_}
 use native.Mathlib.Omega.{arith}
-use lib.Dec.{leb, ltb}
+use lib.Dec.{ltb}
 use lib.IntN.{ℤ}
 use lib.ListN.{length, getD, set, length-set, getD-replicate}
 use lib.Seq.{getD-set-same, getD-set-other}
 use borrow.Author.Count.{below-more}
-use borrow.Author.Tests.{eq-eqb, ne-eqb, lt-ltb, ltb-true, ltb-false, leb-false, not-false}
+use borrow.Author.Tests.{eq-eqb, ne-eqb, lt-ltb, ltb-true, ltb-false, not-false}
 use Rattle.conditions.specs.declared.condition.Condition.{Condition}
 use Rattle.conditions.specs.Below.{all, first}
 use Rattle.conditions.specs.Sets.{member}
@@ -29,6 +29,7 @@ use Rattle.polyvalues.proofs.Laws.Applying.{applying-value}
 use Rattle.polyvalues.proofs.Laws.Canon.{over-none, over-full}
 use Rattle.polyvalues.proofs.Laws.Packed.{inUse-packed, sound-well-formed}
 use Rattle.polyvalues.proofs.Laws.Room.{over-count}
+use Rattle.polyvalues.proofs.Inserting.{fits-yes, fits-no}
 use Rattle.book.specs.declared.Book.{Book}
 use Rattle.book.specs.declared.Step.{Step}
 use Rattle.book.specs.declared.state.State.{State}
@@ -114,16 +115,6 @@ module _ (xs : List Step) (s : State) (c : ℕ) (new : List Polyvalue) where
     pub joining-fails : (count : ℕ) → k < count → r .fits ≡ false → false ≡ all count (λ i. rowAfter places xs s c new i .fits)
     joining-fails count l f = sym (all-fails count (λ i. rowAfter places xs s c new i .fits) k l (sym (ap (λ (j : Joined). j .fits) row) ∙ f))
 
--- ---- room
-
-not-fitted : (q : Polyvalue) (ps : List Pair) → fitted q ps .fits ≡ false → mostPairs < length ps
-unfolding fitted
-not-fitted q ps e = by-cases (leb (length ps) mostPairs) (λ t. absurd (true≢false (rw t at e))) (λ t. leb-false (length ps) mostPairs t)
-
-fitted-row : (q : Polyvalue) (ps : List Pair) → fitted q ps .fits ≡ true → fitted q ps .polyvalue ≡ packed ps
-unfolding fitted
-fitted-row q ps e = by-cases (leb (length ps) mostPairs) (λ t. rw t) (λ t. absurd (true≢false (sym (rw t at e))))
-
 -- ---- one more alternative
 
 -- in a sound book every held polyvalue gives one value
@@ -164,7 +155,7 @@ module _ (b : Book) (xs : List Step) (sure : sound places b ≡ true) (inside : 
     over : (i : ℕ) → touches xs i ≡ true → rowAfter places xs (e .state) c (t .new) i .fits ≡ false → tooMany places b xs ≡ true
     unfolding tooMany results
     over i u f =
-        let many : mostPairs < length (more i) = not-fitted (getD (t .new) i void) (more i) (sym (ap (λ (j : Joined). j .fits) (new-row i u k)) ∙ f) in
+        let many : mostPairs < length (more i) = fits-no (getD (t .new) i void) (more i) (new-row i u k) f in
         let all-many : mostPairs < together (inUse (itemAt b i .held)) (canon places (λ c. run xs (heldAt b c) i)) =
         omega (arith, over-count places (λ c. run xs (heldAt b c) i) (union places (number (t .covered)) (block places b xs a)) (inUse (itemAt b i .held))) in
         any-of (b .count) _ i (table i u) (rw u (lt-ltb mostPairs _ all-many))
@@ -182,8 +173,8 @@ module _ (b : Book) (xs : List Step) (sure : sound places b ≡ true) (inside : 
         record {
           conditions = rw n (union-lt places (number (t .covered)) c);
           rows = λ i l u.
-              rows i l ∙ ap (λ (j : Joined). j .polyvalue) (new-row i u k)
-              ∙ fitted-row (getD (t .new) i void) (more i) (sym (ap (λ (j : Joined). j .fits) (new-row i u k)) ∙ all-at (b .count) (λ i. rowAfter places xs (e .state) c (t .new) i .fits) (sym fits ∙ f) i l)
+              rows i l
+              ∙ fits-yes (getD (t .new) i void) (more i) (new-row i u k) (all-at (b .count) (λ i. rowAfter places xs (e .state) c (t .new) i .fits) (sym fits ∙ f) i l) .0
               ∙ ap (λ (m : ℕ). packed (canonOver places (λ c. run xs (heldAt b c) i) m)) (sym all-covered);
           declines = ds ∙ sym (declines-more places b xs (sound-one b sure) table a ha (number (t .covered))) ∙ ap (someDeclines places b xs) (sym all-covered);
           grants = gs ∙ sym (grants-more places b xs (sound-one b sure) table a ha (number (t .covered))) ∙ ap (someGrants places b xs) (sym all-covered);

@@ -1,5 +1,6 @@
 -- What is true of the definitions in specs/. The crates above cite these laws and open no definition.
 pub mod Below
+pub mod Lists
 pub mod Sets
 pub mod Places
 pub mod Conditions

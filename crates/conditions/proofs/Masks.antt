@@ -1,7 +1,7 @@
 -- The masks and shifts of the code are the definitions, for any number w of places.
 use mathlib.Core.Path.{_≡_, refl, sym, ap, ap₂, _∙_}
 use mathlib.Core.Bool.{Bool, true, false, not, _&&_, _||_, cond, and-true, and-false, or-false}
-use Prim.Native.Nat.{ℕ, zero, suc, _+_, _-_, _*_, _/_, _%_, _^_, _<_}
+use Prim.Native.Nat.{ℕ, _+_, _-_, _*_, _/_, _%_, _^_, _<_}
 use native.Mathlib.Nat.{lt-of-le-of-lt, mod-lt, one-mul}
 use native.Mathlib.Decide.{decLt}
 use native.Mathlib.Omega.{arith}
@@ -14,6 +14,7 @@ use Rattle.conditions.specs.Products.{agrees}
 use Rattle.conditions.proofs.Laws.Sets.{member-and, member-or, member-not, member-shr, member-shl, member-shl-below, member-mod, member-setOf-not, is-setOf, setOf-same}
 use Rattle.conditions.proofs.Laws.Places.{place-lt, member-set, place-same, place-up, place-down, member-more}
 use Rattle.conditions.proofs.Laws.Conditions.{member-complement, member-completed}
+use Rattle.conditions.proofs.Laws.Products.{asks-not}
 
 -- ---- `c | d`, `c & d`, `!c`
 
@@ -74,12 +75,7 @@ unfolding intersection
 tag-aborted w i c {d} z n q s e =
     e ∙ rw (s, q)
     (setOf-same (2 ^ w) (λ a. member c a && member (others w i) a) (λ a. member c a && agrees d (member a i))
-    (λ a h. ap (λ (x : Bool). member c a && x) (member-others w i a h ∙ asks-not d z n (member a i))))
-  where
-    asks-not : (d : ℕ) → (d ≡ 0 → ⊥) → (d ≡ 1 → ⊥) → (b : Bool) → not b ≡ agrees d b
-    asks-not zero z n b = absurd (z refl)
-    asks-not (suc zero) z n b = absurd (n refl)
-    asks-not (suc (suc d)) z n b = refl
+    (λ a h. ap (λ (x : Bool). member c a && x) (member-others w i a h ∙ sym (asks-not d z n (member a i)))))
 
 -- ---- `h | (h >> 2 ^ i)` with `h = c & m`
 

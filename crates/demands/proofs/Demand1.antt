@@ -5,7 +5,6 @@ use mathlib.Core.List.{List, [], _∷_}
 use Prim.Native.Nat.{ℕ}
 use borrow.Author.Tests.{lt-ltb, le-ltb}
 use Rattle.conditions.specs.Conditions.{ofNumber}
-use Rattle.conditions.proofs.Laws.Conditions.{of-number}
 use Rattle.polyvalues.proofs.Laws.Asked.{asked-number}
 use Rattle.book.specs.declared.Answer.{Answer}
 use Rattle.book.specs.declared.Book.{Book}
@@ -81,6 +80,6 @@ demand-1 w = record {
 pub one-result : OneResult
 one-result = record {
   results = λ A definition r s e f. e ∙ sym f;
-  conditions = λ c d e. sym (of-number c) ∙ ap ofNumber e ∙ of-number d;
+  conditions = λ c d e. ap ofNumber e;
   products = λ p q e. ap (λ (n : ℕ). record { 0 = n }) e;
 }

@@ -7,7 +7,7 @@ use native.Mathlib.Omega.{arith}
 use lib.Dec.{eqb}
 use borrow.Author.Tests.{eqb-true, eqb-false}
 use Rattle.conditions.specs.Sets.{member}
-use Rattle.conditions.proofs.Laws.Below.{by-cases}
+use Rattle.conditions.proofs.Laws.Below.{or-second, by-cases}
 use Rattle.conditions.specs.declared.place.TransactionNumber.{TransactionNumber}
 use Rattle.book.specs.declared.Book.{Book}
 use Rattle.book.specs.declared.Open.{Open}
@@ -19,10 +19,6 @@ use Rattle.demands.specs.Past.{Said, asksBegin, asksReady, asksComplete,
 use Rattle.demands.proofs.Acts.{Acts, acts-number, acts-other}
 
 -- ---- one call more
-
-or-later : (x y : Bool) → y ≡ true → (x || y) ≡ true
-or-later true y e = refl
-or-later false y e = e
 
 module _ (past : List Said) (x : Said) where
   -- a call that does not ask it, or was refused, adds nothing
@@ -38,7 +34,7 @@ module _ (past : List Said) (x : Said) where
   -- what has happened stays so
   pub ever-still : (asks : List Said → Call → Bool) → ever asks past ≡ true → ever asks (x ∷ past) ≡ true
   unfolding ever
-  ever-still asks e = or-later (accepted (x .answer) && asks past (x .call)) (ever asks past) e
+  ever-still asks e = or-second (accepted (x .answer) && asks past (x .call)) (ever asks past) e
 
 -- two pasts say the same of the number n
 pub record Same (past now : List Said) (n : ℕ) : Type 0 where

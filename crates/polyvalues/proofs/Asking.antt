@@ -1,8 +1,8 @@
 -- Scanning the pairs, one after the other, finds what is asked.
 use mathlib.Core.Path.{_≡_, sym, _∙_}
-use mathlib.Core.Bool.{_&&_, cond, and-false}
+use mathlib.Core.Bool.{cond, and-false}
 use mathlib.Core.List.{List, [], _∷_}
-use mathlib.Core.Option.{Option, none, some}
+use mathlib.Core.Option.{Option, none}
 use Prim.Native.Nat.{ℕ, suc, _+_, _^_, _<_}
 use native.Mathlib.Nat.{zero-add, add-zero}
 use native.Mathlib.Numerals.{add-one}
@@ -17,21 +17,17 @@ use Rattle.conditions.proofs.Laws.Below.{by-cases}
 use Rattle.polyvalues.specs.declared.polyvalue.Pair.{Pair}
 use Rattle.polyvalues.specs.declared.polyvalue.Polyvalue.{Polyvalue}
 use Rattle.polyvalues.specs.declared.scan.Scan.{Scan}
-use Rattle.polyvalues.specs.Pairs.{noPair, applies, at, hits, asked}
+use Rattle.polyvalues.specs.Pairs.{noPair, applies, at, hits, only, asked}
 use Rattle.polyvalues.specs.Polyvalues.{rowsOf, inUse}
-use Rattle.polyvalues.proofs.Joining.{in-use-row}
+use Rattle.polyvalues.proofs.Joining.{in-use-more}
 use Rattle.polyvalues.specs.Asked.{unseen, counted, found}
-
--- what is asked where n pairs apply and the first says v
-abbrev only : ℕ → ℕ → ℤ → Option ℤ
-only a n v = cond (ltb a (2 ^ places) && eqb n 1) (some v) none
 
 -- what is asked of the pairs that a scan has seen and those that are left
 abbrev pub left : Scan → List Pair → ℕ → Option ℤ
-left s ps a = only a (s .hits + hits ps a) (cond (eqb (s .hits) 0) (at ps a) (s .value))
+left s ps a = only places a (s .hits + hits ps a) (cond (eqb (s .hits) 0) (at ps a) (s .value))
 
 -- unless exactly one applies, it is refused
-not-one : (a n : ℕ) (v : ℤ) → (n ≡ 1 → ⊥) → only a n v ≡ none
+not-one : (a n : ℕ) (v : ℤ) → (n ≡ 1 → ⊥) → only places a n v ≡ none
 not-one a n v h = rw (ne-eqb n 1 h, and-false (ltb a (2 ^ places)))
 
 pub left-all : (ps : List Pair) (a : ℕ) → left unseen ps a ≡ asked places ps a
@@ -66,4 +62,4 @@ left-end ps i a s e = rw (e, drop-length ps) (left-none s a)
 
 pub left-row : (q : Polyvalue) (i a : ℕ) (s : Scan) {p : Pair} → p ≡ getD (rowsOf q) i noPair → i < length (inUse q)
     → left (counted s p a) (drop (i + 1) (inUse q)) a ≡ left s (drop i (inUse q)) a
-left-row q i a s e h = rw (sym (in-use-row q i e h)) (left-next (inUse q) i a s h)
+left-row q i a s {p} e h = rw (add-one, in-use-more q i e h) (left-head s p (drop (suc i) (inUse q)) a)

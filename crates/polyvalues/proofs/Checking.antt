@@ -1,55 +1,25 @@
 -- The test of the rows, one after the other, is the one that document 01 words.
 use mathlib.Core.Path.{_≡_, refl, sym, ap, ap₂, _∙_}
-use mathlib.Core.Bool.{Bool, true, false, not, _&&_, true≢false, false≢true}
+use mathlib.Core.Bool.{Bool, true, false, not, _&&_, true≢false}
 use mathlib.Core.List.{List, [], _∷_}
-use Prim.Native.Nat.{ℕ, suc, _≤_, _<_, _^_, zero-le}
+use Prim.Native.Nat.{ℕ, _≤_, _^_, zero-le}
 use native.Mathlib.Nat.{lt-of-le-of-lt}
 use native.Mathlib.Omega.{arith}
 use lib.Dec.{eqb, leb}
 use lib.IntN.{ℤ, pos, negsuc}
-use lib.ListN.{length, getD, drop, drop-of-length-le}
-use lib.Seq.{drop-cons}
+use lib.ListN.{length}
 use lib.Signed.{leZ}
 use borrow.Author.Tests.{lt-ltb, le-leb, leb-true, eqb-true}
 use Rattle.conditions.specs.Below.{all}
 use Rattle.conditions.specs.Conditions.{full, union, intersection, empty}
-use Rattle.conditions.proofs.Laws.Below.{and-left, and-right, by-cases}
+use Rattle.conditions.proofs.Laws.Below.{and-left, and-right, by-cases, four, six}
 use Rattle.conditions.proofs.Laws.Conditions.{full-filled, empty-zero, full-lt}
 use Rattle.polyvalues.specs.declared.polyvalue.Pair.{Pair}
-use Rattle.polyvalues.specs.declared.polyvalue.Polyvalue.{Polyvalue}
 use Rattle.polyvalues.specs.Values.{inRange, below}
-use Rattle.polyvalues.specs.Pairs.{noPair, blank, assignments, hits}
-use Rattle.polyvalues.specs.Polyvalues.{each, risesFrom, rises, ofPlaces, proper, mostPairs, rowsOf, inUse, wellFormed}
+use Rattle.polyvalues.specs.Pairs.{assignments, hits}
+use Rattle.polyvalues.specs.Polyvalues.{each, risesFrom, rises, ofPlaces, proper, mostPairs, wellFormed}
 use Rattle.polyvalues.specs.Checked.{belowAll, rowFits, checkedFrom}
 use Rattle.polyvalues.proofs.Laws.Cover.{covers, covers-test}
-use Rattle.polyvalues.proofs.Joining.{in-use-row}
-
--- ---- rows past the count
-
-pub blank-more : (q : Polyvalue) (i : ℕ) {p : Pair} → p ≡ getD (rowsOf q) i noPair → i < length (rowsOf q)
-    → each blank (drop i (rowsOf q)) ≡ (blank p && each blank (drop (suc i) (rowsOf q)))
-blank-more q i e h = rw (drop-cons (rowsOf q) i noPair h, sym e)
-
-pub blank-done : (q : Polyvalue) (i : ℕ) → length (rowsOf q) ≤ i → each blank (drop i (rowsOf q)) ≡ true
-blank-done q i h = rw (drop-of-length-le (rowsOf q) h)
-
--- ---- rows in use
-
-pub checked-more : (w : ℕ) (v : ℤ) (s : ℕ) (q : Polyvalue) (i : ℕ) {p : Pair} → p ≡ getD (rowsOf q) i noPair → i < length (inUse q)
-    → checkedFrom w v s (drop i (inUse q)) ≡ (rowFits w v s p && checkedFrom w (p .value) (union w s (assignments p)) (drop (suc i) (inUse q)))
-unfolding checkedFrom
-checked-more w v s q i e h = rw (drop-cons (inUse q) i noPair h, in-use-row q i e h)
-
-pub checked-turn : (w : ℕ) (v : ℤ) (s : ℕ) (q : Polyvalue) (i : ℕ) {p : Pair} {c : ℕ} {target : Bool} → p ≡ getD (rowsOf q) i noPair → i < length (inUse q)
-    → checkedFrom w v s (drop i (inUse q)) ≡ target → rowFits w v s p ≡ true → c ≡ union w s (assignments p)
-    → checkedFrom w (p .value) c (drop (suc i) (inUse q)) ≡ target
-checked-turn w v s q i e h left fits f = rw f (sym (checked-more w v s q i e h ∙ rw fits) ∙ left)
-
-pub checked-done : (w : ℕ) (v : ℤ) (s : ℕ) (ps : List Pair) (i : ℕ) → length ps ≤ i → checkedFrom w v s (drop i ps) ≡ eqb s (full w)
-unfolding checkedFrom
-checked-done w v s ps i h = rw (drop-of-length-le ps h)
-
--- ---- the test is the conjunction of what document 01 asks
 
 abbrev filled : ℕ → Pair → Bool
 filled w p = not (empty w (assignments p))
@@ -59,12 +29,6 @@ record Checked (w : ℕ) (v : ℤ) (s : ℕ) (ps : List Pair) : Type 0 where
   ranged : each (λ p. inRange (p .value)) ps ≡ true
   full-rows : each (filled w) ps ≡ true
   covering : covers w s ps ≡ true
-
-four : (a b c d : Bool) → (a && b && c && d) ≡ true → (a ≡ true) × (b ≡ true) × (c ≡ true) × (d ≡ true)
-four true true true d e = (refl, refl, refl, e)
-four true true false d e = absurd (false≢true e)
-four true false c d e = absurd (false≢true e)
-four false b c d e = absurd (false≢true e)
 
 checked-true : (w : ℕ) (v : ℤ) (s : ℕ) (ps : List Pair) → checkedFrom w v s ps ≡ true → Checked w v s ps
 unfolding checkedFrom
@@ -134,15 +98,11 @@ checked-well-formed w ps o few =
   where
     back : wellFormed w ps ≡ true → checkedFrom w belowAll 0 ps ≡ true
     back f =
-        let ranged = and-right (rises ps && each (proper w) ps && all (2 ^ w) (λ a. eqb (hits ps a) 1) && leb 1 (length ps) && leb (length ps) mostPairs) _ f in
-        let few-rows = and-left (rises ps && each (proper w) ps && all (2 ^ w) (λ a. eqb (hits ps a) 1) && leb 1 (length ps) && leb (length ps) mostPairs) _ f in
-        let some = and-left (rises ps && each (proper w) ps && all (2 ^ w) (λ a. eqb (hits ps a) 1) && leb 1 (length ps)) _ few-rows in
-        let once = and-left (rises ps && each (proper w) ps && all (2 ^ w) (λ a. eqb (hits ps a) 1)) _ some in
-        let rows = and-left (rises ps && each (proper w) ps) _ once in
+        let t = six (rises ps) (each (proper w) ps) (all (2 ^ w) (λ a. eqb (hits ps a) 1)) (leb 1 (length ps)) (leb (length ps) mostPairs) _ f in
         true-checked w belowAll 0 ps
         (record {
-          rising = sym (rises-from ps ranged) ∙ and-left (rises ps) _ rows;
-          ranged = ranged;
-          full-rows = sym (proper-filled w ps o) ∙ and-right (rises ps) _ rows;
-          covering = covers-test w ps ∙ and-right (rises ps && each (proper w) ps) _ once;
+          rising = sym (rises-from ps (t .5)) ∙ t .0;
+          ranged = t .5;
+          full-rows = sym (proper-filled w ps o) ∙ t .1;
+          covering = covers-test w ps ∙ t .2;
         })

@@ -1,6 +1,6 @@
 -- A pair joined into the rows of a polyvalue: what the code leaves is what the definition says, packed.
 use mathlib.Core.Path.{_≡_, refl, sym, ap, ap₂, _∙_}
-use mathlib.Core.Bool.{Bool, true, false, _&&_}
+use mathlib.Core.Bool.{Bool, true, false, _&&_, true≢false}
 use mathlib.Core.List.{List, [], _∷_, _++_, map, append-nil, append-assoc}
 use Prim.Native.Nat.{ℕ, suc, _+_, _-_, _≤_, _<_, min}
 use native.Mathlib.Omega.{arith}
@@ -12,7 +12,7 @@ use borrow.Author.Tests.{ltb-true, le-leb, lt-leb, leb-true, leb-false, lt-ltb}
 use Rattle.conditions.specs.declared.condition.Condition.{Condition}
 use Rattle.conditions.specs.Places.{places}
 use Rattle.conditions.specs.Conditions.{number, ofNumber, full, always, union}
-use Rattle.conditions.proofs.Laws.Conditions.{of-number, always-full}
+use Rattle.conditions.proofs.Laws.Conditions.{always-full}
 use Rattle.conditions.proofs.Laws.Below.{and-left, and-right, by-cases}
 use Rattle.polyvalues.specs.declared.polyvalue.Pair.{Pair}
 use Rattle.polyvalues.specs.declared.polyvalue.Polyvalue.{Polyvalue}
@@ -28,7 +28,7 @@ use Rattle.polyvalues.proofs.Laws.Rows.{insert-new, insert-same}
 
 -- a pair of the code is known by its value and its condition's number
 pub pair-is : (v : ℤ) (c : Condition) {n : ℕ} → number c ≡ n → _≡_ {A = Pair} (record { value = v; condition = c }) (pair v n)
-pair-is v c e = ap (λ (k : Condition). record { value = v; condition = k }) (sym (of-number c) ∙ ap ofNumber e)
+pair-is v c e = ap (pair v) e
 
 -- ---- packed rows
 
@@ -47,6 +47,19 @@ fitted-yes q ps h = rw (le-leb (length ps) mostPairs h)
 pub fitted-no : (q : Polyvalue) (ps : List Pair) → mostPairs < length ps → fitted q ps ≡ record { fits = false; polyvalue = q }
 unfolding fitted
 fitted-no q ps h = rw (lt-leb (length ps) mostPairs h)
+
+-- an answer that it fits, or not, tells that there is room, or not
+pub fits-yes : (q : Polyvalue) (ps : List Pair) {r : Joined} → r ≡ fitted q ps → r .fits ≡ true → (r .polyvalue ≡ packed ps) × (length ps ≤ mostPairs)
+fits-yes q ps {r} e t =
+    by-cases (leb (length ps) mostPairs)
+    (λ l. let few : length ps ≤ mostPairs = leb-true (length ps) mostPairs l in (ap (λ (j : Joined). j .polyvalue) (e ∙ fitted-yes q ps few), few))
+    (λ l. absurd (true≢false (sym t ∙ ap (λ (j : Joined). j .fits) (e ∙ fitted-no q ps (leb-false (length ps) mostPairs l)))))
+
+pub fits-no : (q : Polyvalue) (ps : List Pair) {r : Joined} → r ≡ fitted q ps → r .fits ≡ false → mostPairs < length ps
+fits-no q ps {r} e t =
+    by-cases (leb (length ps) mostPairs)
+    (λ l. absurd (true≢false (sym (ap (λ (j : Joined). j .fits) (e ∙ fitted-yes q ps (leb-true (length ps) mostPairs l))) ∙ t)))
+    (λ l. leb-false (length ps) mostPairs l)
 
 pub in-use-length : (q : Polyvalue) → length (inUse q) ≡ min (q .count) (length (rowsOf q))
 unfolding inUse
@@ -166,10 +179,7 @@ pub certain-packed : {q : Polyvalue} {v z : ℤ} → q ≡ packed [] → z ≡ v
     → _≡_ {A = Polyvalue} (record { count = 1; values = set (q .values) 0 z; conditions = set (q .conditions) 0 always }) (packed (certain places v))
 unfolding packed certain
 certain-packed {q} {v} e f =
-    λ i. record { count = 1; values = set (e i .values) 0 (f i); conditions = set (e i .conditions) 0 (of-full i) }
-  where
-    of-full : always ≡ ofNumber (full places)
-    of-full = sym (of-number always) ∙ ap ofNumber always-full
+    λ i. record { count = 1; values = set (e i .values) 0 (f i); conditions = set (e i .conditions) 0 (ofNumber (always-full i)) }
 
 -- ---- rows past those in use set to zero
 

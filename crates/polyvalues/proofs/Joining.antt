@@ -1,31 +1,28 @@
 -- Rows joined one after the other, and answers that there is room or not.
 use mathlib.Core.Path.{_≡_, refl, sym, ap, _∙_}
-use mathlib.Core.Bool.{Bool, true, false, _||_, cond, true≢false, or-false, or-assoc}
+use mathlib.Core.Bool.{Bool, true, false, _||_, or-false, or-assoc}
 use mathlib.Core.List.{List, [], _∷_, _++_}
 use Prim.Native.Nat.{ℕ, suc, _^_, _≤_, _<_}
 use native.Mathlib.Omega.{arith}
 use lib.Bits.{bitOr}
-use lib.Dec.{leb}
 use lib.ListN.{length, getD, drop, drop-of-length-le, length-map}
-use lib.Seq.{drop-cons, getD-take}
-use borrow.Author.Tests.{leb-true, leb-false}
 use Rattle.conditions.specs.Places.{places}
 use Rattle.conditions.specs.Sets.{member, setOf}
 use Rattle.conditions.specs.Conditions.{dependsOn}
 use Rattle.conditions.proofs.Laws.Sets.{member-none, member-or, member-setOf, is-setOf}
-use Rattle.conditions.proofs.Laws.Below.{by-cases}
+use Rattle.conditions.proofs.Laws.Lists.{take-row, drop-take}
 use Rattle.polyvalues.specs.declared.polyvalue.Pair.{Pair}
 use Rattle.polyvalues.specs.declared.polyvalue.Polyvalue.{Polyvalue}
 use Rattle.polyvalues.specs.declared.polyvalue.Joined.{Joined}
 use Rattle.polyvalues.specs.declared.operations.Cut.the-variants.{Reduced, Completed, Aborted}
-use Rattle.polyvalues.specs.Pairs.{pair, assignments, noPair, applies, depends, applying}
+use Rattle.polyvalues.specs.Pairs.{pair, assignments, noPair, depends}
 use Rattle.polyvalues.specs.Polyvalues.{mostPairs, rowsOf, inUse, packed, fitted}
 use Rattle.polyvalues.specs.Simplify.{join, simplifiedFrom, simplified}
 use Rattle.polyvalues.specs.Operations.{cut, changed, reduce, select}
 use Rattle.polyvalues.proofs.Laws.Simplify.{grows-from, length-simplified}
 use Rattle.polyvalues.proofs.Laws.Operations.{reduce-count}
 use Rattle.polyvalues.proofs.Laws.Packed.{inUse-packed}
-use Rattle.polyvalues.proofs.Inserting.{fitted-yes, fitted-no, in-use-length}
+use Rattle.polyvalues.proofs.Inserting.{fitted-yes, fitted-no, fits-yes, fits-no}
 
 -- ---- answers
 
@@ -35,18 +32,6 @@ packed-again ps e = e ∙ ap packed (sym (ap inUse e ∙ inUse-packed ps))
 
 pub packed-in-use : (ps : List Pair) {q : Polyvalue} → q ≡ packed ps → inUse q ≡ ps
 packed-in-use ps e = ap inUse e ∙ inUse-packed ps
-
-pub fits-yes : (q : Polyvalue) (ps : List Pair) {r : Joined} → r ≡ fitted q ps → r .fits ≡ true → (r .polyvalue ≡ packed ps) × (length ps ≤ mostPairs)
-fits-yes q ps {r} e t =
-    by-cases (leb (length ps) mostPairs)
-    (λ l. let few : length ps ≤ mostPairs = leb-true (length ps) mostPairs l in (ap (λ (j : Joined). j .polyvalue) (e ∙ fitted-yes q ps few), few))
-    (λ l. absurd (true≢false (sym t ∙ ap (λ (j : Joined). j .fits) (e ∙ fitted-no q ps (leb-false (length ps) mostPairs l)))))
-
-pub fits-no : (q : Polyvalue) (ps : List Pair) {r : Joined} → r ≡ fitted q ps → r .fits ≡ false → mostPairs < length ps
-fits-no q ps {r} e t =
-    by-cases (leb (length ps) mostPairs)
-    (λ l. absurd (true≢false (sym (ap (λ (j : Joined). j .fits) (e ∙ fitted-yes q ps (leb-true (length ps) mostPairs l))) ∙ t)))
-    (λ l. leb-false (length ps) mostPairs l)
 
 -- an answer that rests on another polyvalue: the same where it fits, and where not, the one that was handed in
 pub refit-yes : (q t : Polyvalue) (ps : List Pair) {r : Joined} → r ≡ fitted t ps → r .fits ≡ true → r ≡ fitted q ps
@@ -60,27 +45,12 @@ refit-no q t ps e f = sym (fitted-no q ps (fits-no t ps e f))
 -- the code's row i, if it is in use, is one of the list
 pub in-use-row : (q : Polyvalue) (i : ℕ) {p : Pair} → p ≡ getD (rowsOf q) i noPair → i < length (inUse q) → getD (inUse q) i noPair ≡ p
 unfolding inUse
-in-use-row q i e h = getD-take (q .count) (rowsOf q) i noPair (omega (arith, in-use-length q)) ∙ sym e
+in-use-row q i e h = take-row (q .count) (rowsOf q) i noPair h ∙ sym e
 
--- the row i of what is left is joined
-pub rows-more : (w : ℕ) (f : ℕ → ℕ) (done : List Pair) (q : Polyvalue) (i : ℕ) {p : Pair} → p ≡ getD (rowsOf q) i noPair → i < length (inUse q)
-    → simplifiedFrom w done (changed f (drop i (inUse q))) ≡ simplifiedFrom w (join w (p .value) (f (assignments p)) done) (changed f (drop (suc i) (inUse q)))
-unfolding simplifiedFrom
-rows-more w f done q i e h = rw (drop-cons (inUse q) i noPair h, in-use-row q i e h)
-
-pub rows-done : (w : ℕ) (f : ℕ → ℕ) (done rows : List Pair) (i : ℕ) → length rows ≤ i → simplifiedFrom w done (changed f (drop i rows)) ≡ done
-unfolding simplifiedFrom
-rows-done w f done rows i h = rw (drop-of-length-le rows h)
-
--- one row more without dependence
-pub depends-more : (w : ℕ) (q : Polyvalue) (k i : ℕ) {p : Pair} → p ≡ getD (rowsOf q) i noPair → i < length (inUse q)
-    → depends w (drop i (inUse q)) k ≡ (dependsOn w (assignments p) k || depends w (drop (suc i) (inUse q)) k)
-unfolding depends
-depends-more w q k i e h = rw (drop-cons (inUse q) i noPair h, in-use-row q i e h)
-
-pub depends-done : (w : ℕ) (rows : List Pair) (p i : ℕ) → length rows ≤ i → depends w (drop i rows) p ≡ false
-unfolding depends
-depends-done w rows p i h = rw (drop-of-length-le rows h)
+-- and from row i on there are it and those after it
+pub in-use-more : (q : Polyvalue) (i : ℕ) {p : Pair} → p ≡ getD (rowsOf q) i noPair → i < length (inUse q) → drop i (inUse q) ≡ p ∷ drop (suc i) (inUse q)
+unfolding inUse
+in-use-more q i e h = rw e (drop-take (q .count) (rowsOf q) i noPair h)
 
 -- s has the places that a row before i depends on: those that the polyvalue depends on and the rows from i on leave out
 abbrev pub PlacesBefore : Polyvalue → ℕ → ℕ → Type 0
@@ -91,25 +61,16 @@ places-none q p l = rw (member-none p)
 
 pub places-more : (q : Polyvalue) (i s : ℕ) {row : Pair} {more : ℕ} → row ≡ getD (rowsOf q) i noPair → i < length (inUse q) → more ≡ setOf places (dependsOn places (assignments row))
     → PlacesBefore q i s → PlacesBefore q (suc i) (bitOr s more)
+unfolding depends
 places-more q i s {row} {more} at h e before p l =
     let its : member more p ≡ dependsOn places (assignments row) p = ap (λ (m : ℕ). member m p) e ∙ member-setOf places (dependsOn places (assignments row)) p l in
     ap (λ (b : Bool). b || depends places (drop (suc i) (inUse q)) p) (member-or s more p ∙ ap (λ (b : Bool). member s p || b) its)
     ∙ or-assoc (member s p) (dependsOn places (assignments row) p) (depends places (drop (suc i) (inUse q)) p)
-    ∙ ap (λ (b : Bool). member s p || b) (sym (depends-more places q p i at h))
-    ∙ before p l
+    ∙ rw (in-use-more q i at h) at (before p l)
 
 pub places-done : (q : Polyvalue) (i s : ℕ) → length (inUse q) ≤ i → s < 2 ^ places → PlacesBefore q i s → s ≡ setOf places (depends places (inUse q))
-places-done q i s h l before =
-    is-setOf places s (depends places (inUse q)) l
-    (λ p t. sym (or-false (member s p)) ∙ ap (λ (b : Bool). member s p || b) (sym (depends-done places (inUse q) p i h)) ∙ before p t)
-
--- one row more that does not apply
-pub applying-more : (q : Polyvalue) (a i : ℕ) {p : Pair} → p ≡ getD (rowsOf q) i noPair → i < length (inUse q)
-    → applying (drop i (inUse q)) a ≡ cond (applies p a) p (applying (drop (suc i) (inUse q)) a)
-applying-more q a i e h = rw (drop-cons (inUse q) i noPair h, in-use-row q i e h)
-
-pub applying-done : (rows : List Pair) (a i : ℕ) → length rows ≤ i → applying (drop i rows) a ≡ noPair
-applying-done rows a i h = rw (drop-of-length-le rows h)
+unfolding depends
+places-done q i s h l before = is-setOf places s (depends places (inUse q)) l (λ p t. rw (drop-of-length-le (inUse q) h, or-false) at (before p t))
 
 -- ---- reduce and select
 
@@ -151,9 +112,10 @@ module _ (w : ℕ) (f : ℕ → ℕ) (done rows : Polyvalue) (i : ℕ) (target :
     (is : new ≡ pair (row .value) (f (assignments row)))
     (e : r ≡ fitted done (join w (new .value) (assignments new) (inUse done))) where
   after : simplifiedFrom w (join w (new .value) (assignments new) (inUse done)) (changed f (drop (suc i) (inUse rows))) ≡ target
+  unfolding simplifiedFrom
   after =
       ap (λ (p : Pair). simplifiedFrom w (join w (p .value) (assignments p) (inUse done)) (changed f (drop (suc i) (inUse rows)))) is
-      ∙ sym (rows-more w f (inUse done) rows i at more) ∙ left
+      ∙ rw (in-use-more rows i at more) at left
 
   pub turn-fits : r .fits ≡ true
       → (r .polyvalue ≡ packed (inUse (r .polyvalue))) × (length (inUse (r .polyvalue)) ≤ mostPairs)

@@ -9,7 +9,6 @@ use native.Mathlib.Omega.{arith}
 use lib.Dec.{T}
 use lib.IntN.{ℤ, pos, negsuc, natAbs}
 use lib.ListN.{length, getD, drop, length-append, drop-of-length-le}
-use lib.Seq.{drop-cons}
 use lib.Signed.{nonNeg}
 use mir.Facts.{toZ-ofZ}
 use mir.Syntax.{w16}
@@ -24,7 +23,7 @@ use Rattle.polyvalues.specs.Values.{below, valueText}
 use Rattle.polyvalues.specs.Pairs.{assignments, noPair}
 use Rattle.polyvalues.specs.Polyvalues.{rowsOf, inUse}
 use Rattle.polyvalues.specs.Text.{pairText, lineText}
-use Rattle.polyvalues.proofs.Joining.{in-use-row}
+use Rattle.polyvalues.proofs.Joining.{in-use-more}
 
 -- ---- a value: its sign, and its distance from zero
 
@@ -104,7 +103,7 @@ module _ (w : ℕ) (n : ℕ → ℕ) where
 
     rest-more : (i : ℕ) → i < length (inUse q) → rest i ≡ bytes " " ++ rowText i ++ rest (suc i)
     unfolding prefixed
-    rest-more i h = rw (drop-cons (inUse q) i noPair h, in-use-row q i refl h)
+    rest-more i h = rw (in-use-more q i refl h)
 
     pub rest-length : (i : ℕ) → i < length (inUse q) → length (rest i) ≡ 1 + length (rowText i) + length (rest (i + 1))
     rest-length i h = rw (add-one i, rest-more i h) (simp length-append (omega arith))

@@ -1,15 +1,15 @@
 -- "A lent list of pairs can be asked for its value under one assignment." (document 01, The book) The answer as the code gives it, and the scan that finds it.
-use mathlib.Core.Bool.{_&&_, cond}
+use mathlib.Core.Bool.{cond}
 use mathlib.Core.Option.{Option, none, some}
-use Prim.Native.Nat.{ℕ, _^_}
-use lib.Dec.{eqb, ltb}
+use Prim.Native.Nat.{ℕ}
+use lib.Dec.{eqb}
 use lib.IntN.{ℤ, pos}
 use Rattle.conditions.specs.Places.{places}
 use Rattle.polyvalues.specs.declared.polyvalue.Pair.{Pair}
 use Rattle.polyvalues.specs.declared.scan.Asked.{Asked}
 use Rattle.polyvalues.specs.declared.scan.Asked.the-variants.{Value, Refused}
 use Rattle.polyvalues.specs.declared.scan.Scan.{Scan}
-use Rattle.polyvalues.specs.Pairs.{applies}
+use Rattle.polyvalues.specs.Pairs.{applies, only}
 
 -- what is asked, as the code says it
 abbrev pub askedAs : Option ℤ → Asked
@@ -36,4 +36,4 @@ counted s p a = cond (applies p a) (cond (eqb (s .hits) 0) (seen 1 (p .value)) (
 
 -- what it says in the end
 abbrev pub found : Scan → ℕ → Option ℤ
-found s a = cond (ltb a (2 ^ places) && eqb (s .hits) 1) (some (s .value)) none
+found s a = only places a (s .hits) (s .value)

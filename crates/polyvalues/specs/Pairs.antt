@@ -45,9 +45,13 @@ abbrev pub hits : List Pair → ℕ → ℕ
 hits [] a = 0
 hits (p ∷ ps) a = digit (applies p a) + hits ps a
 
--- "It refuses (2) if the assignment's number is over [the last one's], or unless exactly one pair of the list applies."
+-- "It refuses (2) if the assignment's number is over [the last one's], or unless exactly one pair of the list applies": v, where n pairs apply under a
+abbrev pub only : ℕ → ℕ → ℕ → ℤ → Option ℤ
+only w a n v = cond (ltb a (2 ^ w) && eqb n 1) (some v) none
+
+-- the value that a list of pairs has under a, if it is not refused
 unfoldable pub asked : ℕ → List Pair → ℕ → Option ℤ
-asked w ps a = cond (ltb a (2 ^ w) && eqb (hits ps a) 1) (some (at ps a)) none
+asked w ps a = only w a (hits ps a) (at ps a)
 
 -- "It depends on a place if one of its conditions does."
 unfoldable pub depends : ℕ → List Pair → ℕ → Bool

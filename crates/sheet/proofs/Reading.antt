@@ -10,9 +10,9 @@ use lib.IntN.{ℤ}
 use lib.ListN.{length, getD, take, drop, length-drop, drop-of-length-le}
 use lib.Seq.{drop-cons, drop-drop}
 use borrow.Author.Tests.{le-leb, lt-leb, not-true, not-false}
+use Rattle.conditions.proofs.Laws.Below.{cond-same}
 use Rattle.polyvalues.specs.Values.{inRange, signed, ofBytes}
 use Rattle.sheet.specs.Readers.{Read, wrong, right, andThen, byte, word, part, end, any}
-use Rattle.sheet.specs.declared.events.Event.{Event}
 use Rattle.sheet.specs.declared.events.EventAt.{EventAt}
 use Rattle.sheet.specs.declared.events.EventAt.the-variants.{Read as Found, Wrong}
 use Rattle.sheet.specs.Events.{atDistrict, onNumber, fields, event, answered, eventAt}
@@ -52,18 +52,14 @@ answers s at r e = (sym (answered-told s r) ∙ sym (ap answered e), e)
 
 -- ---- the number and the district, where they are wrong for every kind that has them
 
-either-way : (b : Bool) (e : Read Event) → cond b e e ≡ e
-either-way true e = refl
-either-way false e = refl
-
 module _ (kind at : ℕ) (l : List ℕ) {place : ℕ} (no-program : eqb kind 1 ≡ false) (no-item : eqb kind 7 ≡ false) where
   pub number-wrong : word any at l ≡ wrong place → fields kind at l ≡ wrong place
   unfolding fields atDistrict onNumber
-  number-wrong e = rw (no-program, no-item, e, either-way (eqb kind 5) (wrong place), either-way (eqb kind 4) (wrong place), either-way (eqb kind 3) (wrong place), either-way (eqb kind 2) (wrong place))
+  number-wrong e = simp (no-program, no-item, e, cond-same)
 
   pub district-wrong : {n next : ℕ} {rest : List ℕ} → eqb kind 4 ≡ false → eqb kind 5 ≡ false → word any at l ≡ right n next rest → byte any next rest ≡ wrong place → fields kind at l ≡ wrong place
   unfolding fields atDistrict
-  district-wrong f g e d = rw (no-program, no-item, f, g, e, d, either-way (eqb kind 3) (wrong place), either-way (eqb kind 2) (wrong place))
+  district-wrong f g e d = simp (no-program, no-item, f, g, e, d, cond-same)
 
 -- ---- a byte
 

@@ -13,7 +13,7 @@ use Rattle.conditions.proofs.Laws.Below.{by-cases}
 use Rattle.conditions.specs.declared.text.Written.the-variants.{To, NoRoom}
 use Rattle.conditions.specs.Text.{bytes, digits, decimal, prefixed, joined}
 use Rattle.conditions.specs.Written.{written, Put}
-use Rattle.conditions.proofs.Laws.Text.{decimal-le, decimal-one}
+use Rattle.conditions.proofs.Laws.Text.{decimal-le, decimal-one, prefixed-snoc}
 use Rattle.conditions.proofs.Putting.{put-length}
 use Rattle.book.specs.declared.Answer.{Answer}
 use Rattle.book.specs.declared.Answer.the-variants.{Accepted}
@@ -41,14 +41,9 @@ two-fields : (x y : List ℕ) → x ++ field y ≡ joined (code " ") (x ∷ y �
 unfolding joined prefixed
 two-fields x y = ap (λ (t : List ℕ). x ++ field t) (sym (append-nil y))
 
-prefixed-more : (xs : List (List ℕ)) (y : List ℕ) → prefixed (code " ") xs ++ field y ≡ prefixed (code " ") (xs ++ (y ∷ []))
-unfolding prefixed
-prefixed-more [] y = ap field (sym (append-nil y))
-prefixed-more (x ∷ xs) y = ap field (append-assoc x (prefixed (code " ") xs) (field y) ∙ ap (λ (t : List ℕ). x ++ t) (prefixed-more xs y))
-
 field-more : (x : List ℕ) (xs : List (List ℕ)) (y : List ℕ) → joined (code " ") (x ∷ xs) ++ field y ≡ joined (code " ") (x ∷ (xs ++ (y ∷ [])))
 unfolding joined
-field-more x xs y = append-assoc x (prefixed (code " ") xs) (field y) ∙ ap (λ (t : List ℕ). x ++ t) (prefixed-more xs y)
+field-more x xs y = append-assoc x (prefixed (code " ") xs) (field y) ∙ ap (λ (t : List ℕ). x ++ t) (sym (prefixed-snoc (code " ") xs y))
 
 module _ (position : ℕ) (a : Answer) where
   pub head-fields : decimal position ++ field (decimal (answerNumber a)) ≡ head position a

@@ -1,19 +1,18 @@
 -- Begin: sound in, sound out.
 use mathlib.Core.Path.{_≡_, refl, sym, _∙_, ap, ap₂}
-use mathlib.Core.Bool.{Bool, true, false, not, _&&_, cond, true≢false, false≢true, and-false}
+use mathlib.Core.Bool.{true, false, not, _&&_, cond, true≢false, false≢true, and-false}
 use mathlib.Core.List.{List}
-use Prim.Native.Nat.{ℕ, suc, _^_, _≤_, _<_}
+use Prim.Native.Nat.{ℕ, suc, _≤_, _<_}
 use native.Mathlib.Omega.{arith}
 use lib.Dec.{eqb, ltb}
 use lib.IntN.{ℤ}
 use lib.ListN.{length, length-set}
-use lib.Pow.{pow-mono, pow-pos}
-use borrow.Author.Tests.{eqb-true, eq-eqb, ne-eqb, ltb-true, ltb-false, not-true}
-use Rattle.conditions.specs.Sets.{member, setOf}
+use lib.Pow.{pow-pos}
+use borrow.Author.Tests.{eqb-true, eq-eqb, ne-eqb, ltb-false, not-true}
 use Rattle.conditions.specs.Places.{withPlace}
 use Rattle.conditions.specs.Conditions.{full}
 use Rattle.conditions.proofs.Laws.Below.{by-cases, any-none, any-of, first-passes}
-use Rattle.conditions.proofs.Laws.Sets.{member-past, member-none, setOf-lt, member-setOf, is-setOf}
+use Rattle.conditions.proofs.Laws.Sets.{member-none, member-setOf, setOf-below}
 use Rattle.polyvalues.specs.Pairs.{depends}
 use Rattle.polyvalues.specs.Polyvalues.{mostPairs, inUse, packed, WellFormed}
 use Rattle.polyvalues.specs.Operations.{together}
@@ -41,18 +40,6 @@ use Rattle.book.proofs.Laws.Values.{begin-item}
 use Rattle.book.proofs.Laws.But.{DistrictRow, ItemRow, OpenRow, SoundBut, sound-but, placeOf-is, placeOf-kept, seen-same, district-stays, item-stays, item-place, place-open}
 use Rattle.polyvalues.proofs.Laws.Paired.{packed-rows}
 use Rattle.book.proofs.Laws.Settling.{neither-depends, depends-neither}
-
--- a set of districts below the count
-set-below : (k m : ℕ) (f : ℕ → Bool) → m ≤ k → ((d : ℕ) → d < k → f d ≡ true → d < m) → setOf k f < 2 ^ m
-set-below k m f l h = rw (sym (is-setOf k (setOf m f) f (omega (arith, setOf-lt m f, pow-mono l)) same)) (setOf-lt m f)
-  where
-    same : (d : ℕ) → d < k → member (setOf m f) d ≡ f d
-    same d a =
-        by-cases (ltb d m)
-        (λ t. member-setOf m f d (ltb-true d m t))
-        (λ t.
-        let past : m ≤ d = ltb-false d m t in
-        member-past m (setOf m f) d (setOf-lt m f) past ∙ sym (by-cases (f d) (λ z. absurd (omega (arith, h d a z))) (λ z. z)))
 
 -- what begin has tested
 pub record Begins (w : ℕ) (b : Book) (xs : List Step) : Type 0 where
@@ -276,7 +263,7 @@ module _ (w : ℕ) (b : Book) (sound : Sound w b) (t : Shaped w b) (xs : List St
 
   rowNew : OpenRow (b .districts) n new
   rowNew = record {
-    touched = set-below mostDistricts (b .districts) (touchesDistrict b xs) (sound .fewDistricts) (λ d h k. touched-idle d k .0);
+    touched = setOf-below mostDistricts (b .districts) (touchesDistrict b xs) (sound .fewDistricts) (λ d h k. touched-idle d k .0);
     ready = pow-pos (b .districts);
     gave = pow-pos (b .districts);
     decisions = omega arith;

@@ -35,7 +35,8 @@ use Rattle.book.specs.Decide.{someNotReady, completeAnswer, decide, comp
 use Rattle.book.specs.Hear.{hearAnswer, hearItem, heard, hear}
 use Rattle.book.specs.Examples.{bookOf, need4, need5, add1, addMinus1, addMinus2, addMinus4, set7, leftOpen, unsure, twice, told, T1, T2, aborted, both, Gives, Holds, Example1, Example2, Example3, Example4, Example5, Example6, Example7, Example8, Example9}
 use Rattle.book.proofs.Laws.Answers.{is-accepted}
-use Rattle.book.proofs.Laws.Same.{three, same-pairs}
+use Rattle.conditions.proofs.Laws.Below.{three}
+use Rattle.book.proofs.Laws.Same.{same-pairs}
 
 -- ---- the tests
 

@@ -2,15 +2,11 @@
 use mathlib.Core.Path.{_≡_, sym, _∙_}
 use mathlib.Core.Bool.{true, false, _||_, cond, or-true, or-false}
 use Prim.Native.Nat.{ℕ, _^_, _≤_, _<_}
-use native.Mathlib.Omega.{arith}
-use lib.Dec.{eqb, ltb}
-use lib.Pow.{pow-mono}
-use borrow.Author.Tests.{ltb-true, ltb-false, eqb-true, eqb-false, eq-eqb, ne-eqb}
-use Rattle.conditions.specs.Sets.{member}
-use Rattle.conditions.specs.Places.{withPlace}
+use lib.Dec.{eqb}
+use borrow.Author.Tests.{eqb-true, eqb-false, eq-eqb, ne-eqb}
 use Rattle.conditions.proofs.Laws.Below.{by-cases}
-use Rattle.conditions.proofs.Laws.Sets.{member-past}
-use Rattle.conditions.proofs.Laws.Places.{place-lt, member-place, member-set, is-place}
+use Rattle.conditions.specs.Sets.{member}
+use Rattle.conditions.proofs.Laws.Places.{place-below, member-place, member-set}
 use Rattle.book.specs.Book.{mostDistricts, including}
 
 -- its districts
@@ -35,12 +31,4 @@ including-other s d e h n = member-including s d e h ∙ rw n
 
 -- a set of the first k districts stays one
 pub including-lt : (k s d : ℕ) → k ≤ mostDistricts → s < 2 ^ k → d < k → including s d < 2 ^ k
-including-lt k s d l h i = rw (sym (is-place mostDistricts s d true (withPlace k s d true) (omega (arith, place-lt k s d true, pow-mono l)) same)) (place-lt k s d true)
-  where
-    same : (j : ℕ) → j < mostDistricts → member (withPlace k s d true) j ≡ cond (eqb j d) true (member s j)
-    same j _ =
-        by-cases (ltb j k)
-        (λ t. member-place k s d true j (ltb-true j k t))
-        (λ t.
-        let past : k ≤ j = ltb-false j k t in
-        member-past k (withPlace k s d true) j (place-lt k s d true) past ∙ sym (rw (ne-eqb j d (λ e. omega arith)) (member-past k s j h past)))
+including-lt k s d = place-below mostDistricts k s d true

@@ -8,7 +8,7 @@ use lib.Dec.{leb, ltb}
 use lib.IntN.{ℤ}
 use lib.ListN.{length, getD, replicate}
 use borrow.Author.Tests.{ltb-true, leb-true}
-use Rattle.conditions.proofs.Laws.Below.{by-cases}
+use Rattle.conditions.proofs.Laws.Below.{by-cases, three, five}
 use Rattle.polyvalues.specs.Values.{inRange}
 use Rattle.polyvalues.specs.Pairs.{depends, certain}
 use Rattle.polyvalues.specs.Polyvalues.{inUse, packed, sound as soundPolyvalue}
@@ -23,7 +23,6 @@ use Rattle.book.specs.Book.{mostDistricts, mostItems, noRecord, noItem, 
 use Rattle.book.specs.Sound.{Sound}
 use Rattle.book.specs.SoundTest.{sound}
 use Rattle.book.specs.Open.{goodItems, goodOpening, openedItem, openedBook, opened}
-use Rattle.book.proofs.Laws.Same.{three, five}
 use Rattle.book.proofs.Laws.Sound.{test-sound}
 use Rattle.book.proofs.Laws.But.{idle-district, but-sound}
 use Rattle.book.proofs.Laws.Settling.{idle-row}

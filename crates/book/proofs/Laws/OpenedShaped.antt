@@ -11,7 +11,7 @@ use Rattle.polyvalues.specs.Pairs.{certain}
 use Rattle.book.specs.declared.Opening.{Opening}
 use Rattle.book.specs.Book.{mostDistricts, mostItems, noRecord, noItem, noOpen, voidItem}
 use Rattle.book.specs.Open.{goodItems, goodOpening, openedItem, openedBook, opened}
-use Rattle.book.proofs.Laws.Same.{five}
+use Rattle.conditions.proofs.Laws.Below.{five}
 use Rattle.book.proofs.Laws.Open.{opened-sound}
 use Rattle.book.specs.Shaped.{ShapedItem, Shaped, Whole}
 use Rattle.polyvalues.proofs.Laws.Paired.{packed-rows}

@@ -7,21 +7,14 @@ use native.Mathlib.Omega.{arith}
 use lib.Dec.{eqb, leb}
 use lib.IntN.{ℤ, _+ℤ_}
 use borrow.Author.Tests.{eq-eqb, eqb-true, not-false}
-use Rattle.conditions.proofs.Laws.Below.{or-left, or-right, by-cases}
+use Rattle.conditions.proofs.Laws.Below.{or-left, or-right, or-second, by-cases}
 use Rattle.polyvalues.specs.Values.{inRange}
 use Rattle.book.specs.declared.Step.{Step}
 use Rattle.book.specs.Programs.{isAdd, isSet, isCopy, numbered, takes, declines, after, afterAll, declinedFrom, declined, run, names, touches}
 use Rattle.book.specs.Begin.{someStep, badStep}
 
-or-true : (y : Bool) → (y || true) ≡ true
-or-true true = refl
-or-true false = refl
-
 or-first : (x y : Bool) → x ≡ true → (x || y) ≡ true
 or-first x y e = rw e
-
-or-second : (x y : Bool) → y ≡ true → (x || y) ≡ true
-or-second x y e = rw e (or-true x)
 
 -- ---- what a step names
 

@@ -2,24 +2,18 @@
 -- most the different values that held and pending have together, and a sound book has room for those.
 use mathlib.Core.Path.{_≡_}
 use mathlib.Core.Bool.{Bool, true, or-true}
-use mathlib.Core.List.{List, [], _∷_, _++_}
-use Prim.Native.Nat.{ℕ, _+_, _≤_, _<_}
+use mathlib.Core.List.{List, _++_}
+use Prim.Native.Nat.{ℕ, _≤_, _<_}
 use native.Mathlib.Omega.{arith}
 use lib.IntN.{ℤ}
 use lib.ListN.{length}
-use Rattle.conditions.specs.Places.{withPlace}
 use Rattle.conditions.proofs.Laws.Below.{by-cases}
-use Rattle.conditions.proofs.Laws.Places.{place-lt}
 use Rattle.polyvalues.specs.declared.polyvalue.Pair.{Pair}
-use Rattle.polyvalues.specs.Values.{equal}
-use Rattle.polyvalues.specs.Pairs.{applies, at, hits}
-use Rattle.polyvalues.specs.Polyvalues.{mostPairs, Complete, WellFormed, inUse}
+use Rattle.polyvalues.specs.Polyvalues.{mostPairs, WellFormed, inUse}
 use Rattle.polyvalues.specs.Operations.{reduce, select, occurs, together}
-use Rattle.polyvalues.proofs.Laws.Values.{equal-refl}
-use Rattle.polyvalues.proofs.Laws.Canon.{each-over, over-full}
-use Rattle.polyvalues.proofs.Laws.Operations.{reduce-canon, reduce-count}
+use Rattle.polyvalues.proofs.Laws.Operations.{reduce-count}
 use Rattle.polyvalues.proofs.Laws.Packed.{sound-well-formed}
-use Rattle.polyvalues.proofs.Laws.Room.{occurs-append, each-occurs, different-le, different-rising, select-count}
+use Rattle.polyvalues.proofs.Laws.Room.{occurs-append, occurs-reduce, different-le, different-rising, select-count}
 use Rattle.book.specs.declared.Book.{Book}
 use Rattle.book.specs.Book.{itemAt}
 use Rattle.book.specs.Sound.{Sound}
@@ -36,22 +30,6 @@ occurs-second u ps qs e = rw (occurs-append u ps qs, e) (or-true (occurs u ps))
 occurs-either : (u : ℤ) (ps qs rs : List Pair) → (occurs u ps ≡ true → occurs u rs ≡ true) → (occurs u qs ≡ true → occurs u rs ≡ true) → occurs u (ps ++ qs) ≡ true → occurs u rs ≡ true
 occurs-either u ps qs rs f g e = by-cases (occurs u ps) f (λ n. g (rw (occurs-append u ps qs, n) at e))
 
--- the value under an assignment is one of the values
-occurs-at : (ps : List Pair) (a : ℕ) → hits ps a ≡ 1 → occurs (at ps a) ps ≡ true
-occurs-at [] a e = absurd (omega arith)
-occurs-at (p ∷ ps) a e =
-    by-cases (applies p a)
-    (λ t. rw (t, equal-refl (p .value)))
-    (λ t. let one : 0 + hits ps a ≡ 1 = rw t at e in rw (t, occurs-at ps a (omega arith)) (or-true (equal (at ps a) (p .value))))
-
--- reducing adds no value
-occurs-reduce : (w q : ℕ) (o : Bool) (ps : List Pair) → Complete w ps → (u : ℤ) → occurs u (reduce w q o ps) ≡ true → occurs u ps ≡ true
-occurs-reduce w q o ps c u e =
-    each-occurs (λ v. occurs v ps) (reduce w q o ps)
-    (rw (reduce-canon w q o ps c, ← (over-full w (λ a. at ps (withPlace w a q o))))
-    (each-over w (λ a. at ps (withPlace w a q o)) _ (λ v. occurs v ps) (λ a h. occurs-at ps (withPlace w a q o) (c .once (withPlace w a q o) (place-lt w a q o)))))
-    u e
-
 -- ---- how many there are together
 
 pub together-swap : (ps qs : List Pair) → together qs ps ≤ together ps qs
@@ -64,13 +42,13 @@ unfolding together
 together-self w ps f =
     omega (arith, f .few, different-rising ps (f .complete .simple .rising), different-le (ps ++ ps) ps (λ u. occurs-either u ps ps ps (λ e. e) (λ e. e)))
 
-pub together-reduce : (w q : ℕ) (o : Bool) (ps qs : List Pair) → Complete w ps → Complete w qs → together (reduce w q o ps) (reduce w q o qs) ≤ together ps qs
+pub together-reduce : (w q : ℕ) (o : Bool) (ps qs : List Pair) → together (reduce w q o ps) (reduce w q o qs) ≤ together ps qs
 unfolding together
-together-reduce w q o ps qs c d =
+together-reduce w q o ps qs =
     different-le (reduce w q o ps ++ reduce w q o qs) (ps ++ qs)
     (λ u. occurs-either u (reduce w q o ps) (reduce w q o qs) (ps ++ qs)
-    (λ e. occurs-first u ps qs (occurs-reduce w q o ps c u e))
-    (λ e. occurs-second u ps qs (occurs-reduce w q o qs d u e)))
+    (λ e. occurs-first u ps qs (occurs-reduce w q o ps u e))
+    (λ e. occurs-second u ps qs (occurs-reduce w q o qs u e)))
 
 -- ---- a sound book
 

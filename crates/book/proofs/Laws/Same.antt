@@ -1,5 +1,5 @@
 -- Rows that pass the test of equality are equal, and only they.
-use mathlib.Core.Path.{_≡_, refl, sym, ap, ap₂, _∙_}
+use mathlib.Core.Path.{_≡_, refl, ap, ap₂, _∙_}
 use mathlib.Core.Bool.{Bool, true, _&&_, false≢true}
 use mathlib.Core.List.{List, [], _∷_}
 use native.Mathlib.Omega.{arith}
@@ -9,8 +9,7 @@ use lib.ListN.{length}
 use borrow.Author.Tests.{eq-eqb, eqb-true}
 use Rattle.conditions.specs.declared.condition.Condition.{Condition}
 use Rattle.conditions.specs.Conditions.{number, ofNumber}
-use Rattle.conditions.proofs.Laws.Conditions.{of-number}
-use Rattle.conditions.proofs.Laws.Below.{and-left, and-right, and-swap}
+use Rattle.conditions.proofs.Laws.Below.{and-left, and-right, and-swap, three, five}
 use Rattle.polyvalues.specs.declared.polyvalue.Pair.{Pair}
 use Rattle.polyvalues.specs.declared.polyvalue.Polyvalue.{Polyvalue}
 use Rattle.polyvalues.specs.Values.{equal}
@@ -24,25 +23,6 @@ use Rattle.book.specs.declared.Item.{Item}
 use Rattle.book.specs.declared.Open.{Open}
 use Rattle.book.specs.Book.{noRecord, noOpen}
 use Rattle.book.specs.SoundTest.{sameCondition, samePolyvalue, sameItem, zeroRecord, zeroOpen}
-
--- ---- tests that hold together
-
-pub three : (a b c : Bool) → (a && b && c) ≡ true → (a ≡ true) × (b ≡ true) × (c ≡ true)
-three a b c e = (and-left a b (and-left (a && b) c e), and-right a b (and-left (a && b) c e), and-right (a && b) c e)
-
-pub five : (a b c d f : Bool) → (a && b && c && d && f) ≡ true → (a ≡ true) × (b ≡ true) × (c ≡ true) × (d ≡ true) × (f ≡ true)
-five a b c d f e =
-    let t = three (a && b && c) d f e in
-    let u = three a b c (t .0) in
-    (u .0, u .1, u .2, t .1, t .2)
-
-pub eight : (a b c d f g h i : Bool) → (a && b && c && d && f && g && h && i) ≡ true
-    → (a ≡ true) × (b ≡ true) × (c ≡ true) × (d ≡ true) × (f ≡ true) × (g ≡ true) × (h ≡ true) × (i ≡ true)
-eight a b c d f g h i e =
-    let t = three (a && b && c && d && f && g) h i e in
-    let u = three (a && b && c && d) f g (t .0) in
-    let v = three (a && b) c d (u .0) in
-    (and-left a b (v .0), and-right a b (v .0), v .1, v .2, u .1, u .2, t .1, t .2)
 
 -- ---- equal rows
 
@@ -60,7 +40,7 @@ rows-same f g [] = refl
 rows-same f g (x ∷ xs) = ap₂ _&&_ (g x) (rows-same f g xs)
 
 same-condition : (c d : Condition) → sameCondition c d ≡ true → c ≡ d
-same-condition c d e = sym (of-number c) ∙ ap ofNumber (eqb-true (number c) (number d) e) ∙ of-number d
+same-condition c d e = ap ofNumber (eqb-true (number c) (number d) e)
 
 -- rows of pairs are compared as their values and their conditions are
 pub same-paired : (vs us : List ℤ) (cs ds : List Condition) → length vs ≡ length cs → length us ≡ length ds

@@ -110,7 +110,7 @@ module _ (w districts n q : ℕ) (x : Item) (f : ItemRow w districts n q x) wher
     idleSame = λ k. rw (f .idleSame k);
     ownFree = λ k. reduce-free-of p q o (f .ownFree k);
     fewTogether = rw (inUse-packed (reduce w p o (inUse (x .held))), inUse-packed (reduce w p o (inUse (x .pending))))
-        (omega (arith, f .fewTogether, together-reduce w p o (inUse (x .held)) (inUse (x .pending)) (held-formed .complete) (pending-formed .complete)));
+        (omega (arith, f .fewTogether, together-reduce w p o (inUse (x .held)) (inUse (x .pending))));
   }
 
   -- an item that is dropped, or installed

@@ -7,7 +7,7 @@ use lib.Dec.{eqb, leb, ltb}
 use borrow.Author.Tests.{ltb-true, leb-true, eqb-true, eqb-false, ltb-false, not-true, lt-ltb, le-ltb, le-leb, eq-eqb, ne-eqb}
 use Rattle.conditions.specs.Below.{all}
 use Rattle.conditions.specs.Sets.{member}
-use Rattle.conditions.proofs.Laws.Below.{and-left, and-right, by-cases, all-at, all-of, any-none, first-passes}
+use Rattle.conditions.proofs.Laws.Below.{and-left, and-right, by-cases, three, five, eight, all-at, all-of, any-none, first-passes}
 use Rattle.polyvalues.specs.Polyvalues.{mostPairs, inUse, sound as soundPolyvalue}
 use Rattle.polyvalues.specs.Operations.{together}
 use Rattle.book.specs.declared.Record.{Record}
@@ -20,7 +20,7 @@ use Rattle.book.specs.Sound.{Sound}
 use Rattle.book.specs.SoundTest.{zeroRecord, zeroOpen, soundBusy, soundRecord, soundDistrict, soundPending, soundRow, soundItem, soundAt, soundOpen, soundPlace, sound}
 use Rattle.book.proofs.Laws.But.{DistrictRow, ItemRow, SetsAt, OpenRow, sound-but, but-sound}
 use Rattle.book.proofs.Laws.Forget.{kept-needed, needed-kept}
-use Rattle.book.proofs.Laws.Same.{three, five, eight, same-polyvalue, polyvalue-same, same-item, item-same, zero-record, zero-open}
+use Rattle.book.proofs.Laws.Same.{same-polyvalue, polyvalue-same, same-item, item-same, zero-record, zero-open}
 
 -- a test of two cases, in the case that holds
 if-true : (t : Bool) (x y : Bool) → cond t x y ≡ true → t ≡ true → x ≡ true

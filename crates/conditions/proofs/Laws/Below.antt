@@ -1,6 +1,6 @@
--- Each, any, the lowest, and all by rising number, over the numbers below k.
+-- Tests that hold together, and each, any, the lowest, and all by rising number, over the numbers below k.
 use mathlib.Core.Path.{_≡_, refl, sym, ap, ap₂, _∙_}
-use mathlib.Core.Bool.{Bool, true, false, _&&_, _||_, cond, and-true, and-assoc, true≢false, false≢true}
+use mathlib.Core.Bool.{Bool, true, false, _&&_, _||_, cond, and-true, or-true, and-assoc, true≢false, false≢true}
 use Prim.Native.Nat.{ℕ, zero, suc, _+_, _≤_, _<_}
 use native.Mathlib.Nat.{add-zero, add-suc}
 use native.Mathlib.Omega.{arith}
@@ -23,6 +23,9 @@ pub or-right : (x y : Bool) → (x || y) ≡ false → y ≡ false
 or-right true y e = absurd (true≢false e)
 or-right false y e = e
 
+pub or-second : (x y : Bool) → y ≡ true → (x || y) ≡ true
+or-second x y e = rw e (or-true x)
+
 pub and-swap : (a b c d : Bool) → (a && b && (c && d)) ≡ (a && c && (b && d))
 and-swap false b c d = refl
 and-swap true true c d = refl
@@ -33,6 +36,40 @@ and-swap true false false d = refl
 pub by-cases : {P : Type 0} (b : Bool) → (b ≡ true → P) → (b ≡ false → P) → P
 by-cases true t f = t refl
 by-cases false t f = f refl
+
+-- where both cases say the same, the test is idle
+pub cond-same : {A : Type 0} (b : Bool) (x : A) → cond b x x ≡ x
+cond-same true x = refl
+cond-same false x = refl
+
+-- ---- tests that hold together
+
+pub three : (a b c : Bool) → (a && b && c) ≡ true → (a ≡ true) × (b ≡ true) × (c ≡ true)
+three a b c e = let first = and-left (a && b) c e in (and-left a b first, and-right a b first, and-right (a && b) c e)
+
+pub four : (a b c d : Bool) → (a && b && c && d) ≡ true → (a ≡ true) × (b ≡ true) × (c ≡ true) × (d ≡ true)
+four a b c d e =
+    let t = three (a && b) c d e in
+    (and-left a b (t .0), and-right a b (t .0), t .1, t .2)
+
+pub five : (a b c d f : Bool) → (a && b && c && d && f) ≡ true → (a ≡ true) × (b ≡ true) × (c ≡ true) × (d ≡ true) × (f ≡ true)
+five a b c d f e =
+    let t = three (a && b && c) d f e in
+    let u = three a b c (t .0) in
+    (u .0, u .1, u .2, t .1, t .2)
+
+pub six : (a b c d f g : Bool) → (a && b && c && d && f && g) ≡ true → (a ≡ true) × (b ≡ true) × (c ≡ true) × (d ≡ true) × (f ≡ true) × (g ≡ true)
+six a b c d f g e =
+    let t = three (a && b && c && d) f g e in
+    let u = four a b c d (t .0) in
+    (u .0, u .1, u .2, u .3, t .1, t .2)
+
+pub eight : (a b c d f g h i : Bool) → (a && b && c && d && f && g && h && i) ≡ true
+    → (a ≡ true) × (b ≡ true) × (c ≡ true) × (d ≡ true) × (f ≡ true) × (g ≡ true) × (h ≡ true) × (i ≡ true)
+eight a b c d f g h i e =
+    let t = three (a && b && c && d && f && g) h i e in
+    let u = six a b c d f g (t .0) in
+    (u .0, u .1, u .2, u .3, u .4, u .5, t .1, t .2)
 
 -- ---- each
 

@@ -6,18 +6,13 @@ use lib.Dec.{eqb}
 use lib.Count.{trailingZeros}
 use lib.Pow.{pow-pos}
 use borrow.Author.Tests.{not-true, eq-eqb, eqb-true, eqb-false}
-use Rattle.conditions.specs.declared.condition.Condition.{Condition}
 use Rattle.conditions.specs.Below.{first}
 use Rattle.conditions.specs.Sets.{member, setOf}
 use Rattle.conditions.specs.Places.{places, withPlace}
-use Rattle.conditions.specs.Conditions.{number, ofNumber, full, always, union, intersection, complement, empty, lowest, completed, selected, reduced, differ, dependsOn}
+use Rattle.conditions.specs.Conditions.{number, full, always, union, intersection, complement, empty, lowest, completed, selected, reduced, differ, dependsOn}
 use Rattle.conditions.proofs.Laws.Below.{or-left, by-cases, all-at, all-of, any-none, none-any}
 use Rattle.conditions.proofs.Laws.Sets.{digit-under, member-zero, member-suc, member-past, member-none, same-members, setOf-lt, member-setOf}
 use Rattle.conditions.proofs.Laws.Places.{place-lt, place-past, place-same, place-twice, place-swap}
-
--- a condition of the code is known by its number
-pub of-number : (c : Condition) → ofNumber (number c) ≡ c
-of-number c = refl
 
 -- the associated constant is the full set
 pub always-full : number always ≡ full places

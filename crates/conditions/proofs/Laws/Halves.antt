@@ -11,6 +11,7 @@ use Rattle.conditions.specs.Products.{tagAt, agrees, allows, within}
 use Rattle.conditions.proofs.Laws.Below.{all-of, all-same, all-plus, all-both}
 use Rattle.conditions.proofs.Laws.Sets.{member-and, member-none, member-past, member-mod, member-shr}
 use Rattle.conditions.proofs.Laws.Places.{member-more, up-other}
+use Rattle.conditions.proofs.Laws.Products.{asks-not}
 
 -- the last place of an assignment of the low half is aborted
 low-last : (i a : ℕ) → a < 2 ^ i → member a i ≡ false
@@ -69,13 +70,7 @@ within-completed i q c t = sym (within-halves i q c ∙ rw t refl)
 
 -- an aborted one leaves the low half
 pub within-aborted : (i q c : ℕ) → (tagAt q i ≡ 0 → ⊥) → (tagAt q i ≡ 1 → ⊥) → within i q (c % 2 ^ 2 ^ i) ≡ within (suc i) q c
-within-aborted i q c z n = sym (within-halves i q c ∙ go (tagAt q i) z n)
-  where
-    go : (d : ℕ) → (d ≡ 0 → ⊥) → (d ≡ 1 → ⊥)
-        → (cond (agrees d false) (within i q (c % 2 ^ 2 ^ i)) true && cond (agrees d true) (within i q (c / 2 ^ 2 ^ i)) true) ≡ within i q (c % 2 ^ 2 ^ i)
-    go zero z n = absurd (z refl)
-    go (suc zero) z n = absurd (n refl)
-    go (suc (suc d)) z n = and-true (within i q (c % 2 ^ 2 ^ i))
+within-aborted i q c z n = sym (within-halves i q c ∙ rw (asks-not (tagAt q i) z n false, asks-not (tagAt q i) z n true) (and-true (within i q (c % 2 ^ 2 ^ i))))
 
 -- every product allows some assignment: none is within the empty set
 pub within-nothing : (w q : ℕ) → within w q 0 ≡ false

@@ -99,6 +99,12 @@ dropped-lt p (suc i) has =
 
 -- ---- the assignments that a product allows
 
+-- a tag that is neither absent nor completed asks for aborted
+pub asks-not : (d : ℕ) → (d ≡ 0 → ⊥) → (d ≡ 1 → ⊥) → (b : Bool) → agrees d b ≡ not b
+asks-not zero z n b = absurd (z refl)
+asks-not (suc zero) z n b = absurd (n refl)
+asks-not (suc (suc d)) z n b = refl
+
 pub allows-at : (w p a : ℕ) → allows w p a ≡ true → (i : ℕ) → i < w → agrees (tagAt p i) (member a i) ≡ true
 unfolding allows
 allows-at w p a e i h = all-at w (λ i. agrees (tagAt p i) (member a i)) e i h

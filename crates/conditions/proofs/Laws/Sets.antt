@@ -1,6 +1,6 @@
 -- A set that is written as a number: its members, and what a computer's operations do to all of them at once. For any width.
 use mathlib.Core.Path.{_≡_, refl, sym, ap, _∙_}
-use mathlib.Core.Bool.{Bool, true, false, not, _&&_, _||_, cond}
+use mathlib.Core.Bool.{Bool, true, false, not, _&&_, _||_, cond, true≢false}
 use Prim.Native.Nat.{ℕ, zero, suc, _+_, _-_, _*_, _/_, _%_, _^_, _≤_, _<_, min, max}
 use native.Mathlib.Nat.{mod-lt, div-div-eq-div-mul, pow-succ', zero-lt-suc, div-one, div-eq-of-lt, lt-of-lt-of-le}
 use native.Mathlib.Omega.{arith}
@@ -11,6 +11,7 @@ use lib.Dec.{eqb}
 use lib.Pow.{pow-mono, shr-shr, shl-shr, field, mod-mod-pow}
 use lib.Bits.{bitAnd, bitOr, and-step, or-step, and-shr, or-shr, shifted-even, shifted-half, and-mask}
 use Rattle.conditions.specs.Sets.{digit, setOf, odd, member}
+use Rattle.conditions.proofs.Laws.Below.{by-cases}
 
 -- ---- binary digits
 
@@ -77,6 +78,14 @@ pub member-past : (k a n : ℕ) → a < 2 ^ k → k ≤ n → member a n ≡ fal
 unfolding member
 member-past k a n h l = ap odd (div-eq-of-lt (lt-of-lt-of-le h (pow-mono l))) ∙ odd-digit false
 
+-- so a member of it is below k
+pub member-below : (k a n : ℕ) → a < 2 ^ k → member a n ≡ true → n < k
+member-below k a n h e = pick (decLt n k)
+  where
+    pick : Dec (n < k) → n < k
+    pick (yes l) = l
+    pick (no l) = absurd (true≢false (sym e ∙ member-past k a n h (omega arith)))
+
 pub member-none : (n : ℕ) → member 0 n ≡ false
 member-none n = member-past 0 0 n (omega arith) (omega arith)
 
@@ -141,6 +150,13 @@ setOf-more p i e f g = rw (add-one, g, f, e)
 pub setOf-same : (k : ℕ) (p q : ℕ → Bool) → ((n : ℕ) → n < k → p n ≡ q n) → setOf k p ≡ setOf k q
 setOf-same k p q f = is-setOf k (setOf k p) q (setOf-lt k p) (λ n h. member-setOf k p n h ∙ f n h)
 
+-- where only numbers below m pass it is a set of these
+pub setOf-below : (k m : ℕ) (p : ℕ → Bool) → m ≤ k → ((n : ℕ) → n < k → p n ≡ true → n < m) → setOf k p < 2 ^ m
+setOf-below k m p l h =
+    rw (sym (is-setOf k (setOf m p) p (lt-of-lt-of-le (setOf-lt m p) (pow-mono l))
+    (λ n a. by-cases (p n) (λ t. member-setOf m p n (h n a t)) (λ t. member-setOf-not m p n t ∙ sym t))))
+    (setOf-lt m p)
+
 -- ---- masks and shifts
 
 pub member-and : (a b n : ℕ) → member (bitAnd a b) n ≡ (member a n && member b n)
@@ -188,10 +204,9 @@ member-shl-below a (suc s) (suc n) h =
 
 -- what is cut to k bits keeps the members below k
 pub member-mod : (k a n : ℕ) → n < k → member (a % 2 ^ k) n ≡ member a n
-member-mod zero a n h = absurd (omega arith)
-member-mod (suc k) a zero h =
-    let e : a % 2 ^ suc k % 2 ≡ a % 2 = rw add-one at (mod-mod-pow a k 1) in
-    member-zero (a % 2 ^ suc k) ∙ odd-same (a % 2 ^ suc k) a e ∙ sym (member-zero a)
-member-mod (suc k) a (suc n) h =
-    let e : a % 2 ^ suc k / 2 ≡ a / 2 % 2 ^ k = rw add-one at (field a k 1) in
-    member-suc (a % 2 ^ suc k) n ∙ ap (λ (m : ℕ). member m n) e ∙ member-mod k (a / 2) n (omega arith) ∙ sym (member-suc a n)
+unfolding member
+member-mod k a n h =
+    let j : ℕ = k - suc n in
+    let e : k ≡ j + 1 + n = omega arith in
+    odd-same (a % 2 ^ k / 2 ^ n) (a / 2 ^ n)
+    (ap (λ (m : ℕ). a % 2 ^ m / 2 ^ n % 2) e ∙ ap (λ (m : ℕ). m % 2) (field a (j + 1) n) ∙ mod-mod-pow (a / 2 ^ n) j 1)

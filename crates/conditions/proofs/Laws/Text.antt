@@ -1,7 +1,7 @@
 -- Decimal numbers, and texts that are listed by rising number and joined by a byte.
 use mathlib.Core.Path.{_≡_, refl, sym, ap, _∙_}
 use mathlib.Core.Bool.{Bool, true, false, cond}
-use mathlib.Core.List.{List, [], _∷_, _++_, map, append-nil, append-assoc}
+use mathlib.Core.List.{List, [], _∷_, _++_, map, append-nil, append-assoc, map-append}
 use Prim.Native.Nat.{ℕ, zero, suc, _+_, _/_, _%_, _^_, _≤_, _<_}
 use native.Mathlib.Nat.{pow-suc}
 use native.Mathlib.Omega.{arith}
@@ -62,12 +62,11 @@ listed s text test k = joined s (map text (those k test))
 abbrev pub apart : ℕ → ℕ → List ℕ
 apart s n = cond (ltb 0 n) (s ∷ []) []
 
-prefixed-snoc : (s : ℕ) (text : ℕ → List ℕ) (is : List ℕ) (i : ℕ)
-    → prefixed s (map text (is ++ (i ∷ []))) ≡ prefixed s (map text is) ++ (s ∷ text i)
+-- one text more
+pub prefixed-snoc : (s : ℕ) (xs : List (List ℕ)) (y : List ℕ) → prefixed s (xs ++ (y ∷ [])) ≡ prefixed s xs ++ (s ∷ y)
 unfolding prefixed
-prefixed-snoc s text [] i = ap (λ (t : List ℕ). s ∷ t) (append-nil (text i))
-prefixed-snoc s text (j ∷ is) i =
-    ap (λ (t : List ℕ). s ∷ text j ++ t) (prefixed-snoc s text is i) ∙ sym (append-assoc (s ∷ text j) (prefixed s (map text is)) (s ∷ text i))
+prefixed-snoc s [] y = ap (λ (t : List ℕ). s ∷ t) (append-nil y)
+prefixed-snoc s (x ∷ xs) y = ap (λ (t : List ℕ). s ∷ x ++ t) (prefixed-snoc s xs y) ∙ sym (append-assoc (s ∷ x) (prefixed s xs) (s ∷ y))
 
 joined-snoc : (s : ℕ) (text : ℕ → List ℕ) → ((i : ℕ) → 0 < length (text i)) → (is : List ℕ) (i : ℕ)
     → joined s (map text (is ++ (i ∷ []))) ≡ joined s (map text is) ++ (apart s (length (joined s (map text is))) ++ text i)
@@ -76,7 +75,7 @@ joined-snoc s text some [] i = append-nil (text i)
 joined-snoc s text some (j ∷ is) i =
     let h : 0 < length (text j) = some j in
     let long : ltb 0 (length (text j ++ prefixed s (map text is))) ≡ true = lt-ltb 0 (length (text j ++ prefixed s (map text is))) (simp length-append (omega arith)) in
-    rw long (ap (λ (t : List ℕ). text j ++ t) (prefixed-snoc s text is i) ∙ sym (append-assoc (text j) (prefixed s (map text is)) (s ∷ text i)))
+    rw long (ap (λ (t : List ℕ). text j ++ t) (ap (prefixed s) (map-append text is (i ∷ [])) ∙ prefixed-snoc s (map text is) (text i)) ∙ sym (append-assoc (text j) (prefixed s (map text is)) (s ∷ text i)))
 
 -- one number more: nothing where it does not pass, else its text
 pub listed-skip : (s : ℕ) (text : ℕ → List ℕ) (test : ℕ → Bool) (k : ℕ) → test k ≡ false → listed s text test (suc k) ≡ listed s text test k

@@ -6,13 +6,13 @@ use Prim.Native.Nat.{ℕ, _^_, _<_}
 use native.Mathlib.Omega.{arith}
 use lib.IntN.{ℤ}
 use borrow.Author.Tests.{ltb-true}
-use Rattle.conditions.specs.Conditions.{ofNumber, empty}
+use Rattle.conditions.specs.Conditions.{empty}
 use Rattle.conditions.proofs.Laws.Below.{and-left, and-right, by-cases}
 use Rattle.conditions.proofs.Laws.Sets.{same-members}
-use Rattle.conditions.proofs.Laws.Conditions.{of-number, none-empty}
+use Rattle.conditions.proofs.Laws.Conditions.{none-empty}
 use Rattle.polyvalues.specs.declared.polyvalue.Pair.{Pair}
 use Rattle.polyvalues.specs.Values.{below, equal}
-use Rattle.polyvalues.specs.Pairs.{assignments, applies, at, hits}
+use Rattle.polyvalues.specs.Pairs.{pair, assignments, applies, at, hits}
 use Rattle.polyvalues.specs.Polyvalues.{each, risesFrom, rises, ofPlaces, proper, Simple}
 use Rattle.polyvalues.proofs.Laws.Values.{equal-refl, equal-true, below-not, below-trans, below-else}
 
@@ -59,7 +59,7 @@ small {w} {p} s = ltb-true _ _ (and-left _ (not (empty w (assignments p))) (simp
 -- ---- the relation settles the pairs
 
 pub same-pair : (x y : Pair) → x .value ≡ y .value → assignments x ≡ assignments y → x ≡ y
-same-pair x y v n = λ i. record { value = v i; condition = (sym (of-number (x .condition)) ∙ ap ofNumber n ∙ of-number (y .condition)) i }
+same-pair x y v n = λ i. pair (v i) (n i)
 
 -- the lowest value shows in the relation, its condition not being empty
 shows : (w : ℕ) (p : Pair) (ps qs : List Pair) → Simple w (p ∷ ps) → risesFrom (p .value) qs ≡ true

@@ -13,7 +13,7 @@ use Rattle.conditions.proofs.Laws.Below.{and-left, and-right}
 use Rattle.polyvalues.specs.declared.polyvalue.Pair.{Pair}
 use Rattle.polyvalues.specs.declared.polyvalue.Polyvalue.{Polyvalue}
 use Rattle.polyvalues.specs.Values.{equal}
-use Rattle.polyvalues.specs.Pairs.{assignments, noPair}
+use Rattle.polyvalues.specs.Pairs.{assignments, noPair, blank}
 use Rattle.polyvalues.specs.Polyvalues.{each, mostPairs, sound, WellFormed, wellFormed, rowsOf, inUse, tidy, padded, packed, AllRows}
 use Rattle.polyvalues.proofs.Laws.Values.{equal-true}
 use Rattle.polyvalues.proofs.Laws.Holds.{same-pair}
@@ -28,7 +28,7 @@ tidy-packed : (ps : List Pair) → tidy (packed ps) ≡ true
 unfolding tidy packed
 tidy-packed ps = rw (rows-packed ps, drop-append-seam ps (replicate (mostPairs - length ps) noPair)) (blanks (mostPairs - length ps))
   where
-    blanks : (n : ℕ) → each (λ p. equal (p .value) (pos 0) && eqb (assignments p) 0) (replicate n noPair) ≡ true
+    blanks : (n : ℕ) → each blank (replicate n noPair) ≡ true
     blanks zero = refl
     blanks (suc n) = blanks n
 
@@ -41,19 +41,19 @@ packed-tidy q c all t =
     let past : mostPairs - length (take (q .count) (rowsOf q)) ≡ length (drop (q .count) (rowsOf q)) = omega (arith, length-drop (q .count) (rowsOf q)) in
     let rows : padded (take (q .count) (rowsOf q)) ≡ rowsOf q =
     ap (λ n. take (q .count) (rowsOf q) ++ replicate n noPair) past
-    ∙ ap (λ r. take (q .count) (rowsOf q) ++ r) (sym (blank (drop (q .count) (rowsOf q)) t))
+    ∙ ap (λ r. take (q .count) (rowsOf q) ++ r) (sym (zeros (drop (q .count) (rowsOf q)) t))
     ∙ take-append-drop (q .count) (rowsOf q) in
     let values : map (λ p. p .value) (padded (take (q .count) (rowsOf q))) ≡ q .values = ap (map (λ p. p .value)) rows ∙ values-paired (q .values) (q .conditions) e in
     let conditions : map (λ p. p .condition) (padded (take (q .count) (rowsOf q))) ≡ q .conditions = ap (map (λ p. p .condition)) rows ∙ conditions-paired (q .values) (q .conditions) e in
     λ i. record { count = count i; values = values i; conditions = conditions i }
   where
-    blank : (ps : List Pair) → each (λ p. equal (p .value) (pos 0) && eqb (assignments p) 0) ps ≡ true → ps ≡ replicate (length ps) noPair
-    blank [] e = refl
-    blank (p ∷ ps) e =
-        let this = and-left (equal (p .value) (pos 0) && eqb (assignments p) 0) _ e in
+    zeros : (ps : List Pair) → each blank ps ≡ true → ps ≡ replicate (length ps) noPair
+    zeros [] e = refl
+    zeros (p ∷ ps) e =
+        let this = and-left (blank p) _ e in
         ap₂ _∷_
         (same-pair p noPair (equal-true (p .value) (pos 0) (and-left _ (eqb (assignments p) 0) this)) (eqb-true (assignments p) 0 (and-right (equal (p .value) (pos 0)) _ this)))
-        (blank ps (and-right (equal (p .value) (pos 0) && eqb (assignments p) 0) _ e))
+        (zeros ps (and-right (blank p) _ e))
 
 pub packed-sound : (w : ℕ) (ps : List Pair) → WellFormed w ps → sound w (packed ps) ≡ true
 unfolding sound packed

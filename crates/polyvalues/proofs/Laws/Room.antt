@@ -7,13 +7,13 @@ use native.Mathlib.Omega.{arith}
 use lib.IntN.{ℤ}
 use lib.ListN.{length}
 use Rattle.conditions.specs.Sets.{digit}
-use Rattle.conditions.specs.Conditions.{selected}
+use Rattle.conditions.specs.Conditions.{reduced, selected}
 use Rattle.conditions.proofs.Laws.Below.{and-left, and-right, by-cases}
 use Rattle.polyvalues.specs.declared.polyvalue.Pair.{Pair}
 use Rattle.polyvalues.specs.Values.{below, equal}
 use Rattle.polyvalues.specs.Polyvalues.{each, risesFrom, rises}
 use Rattle.polyvalues.specs.Simplify.{canonOver, canon}
-use Rattle.polyvalues.specs.Operations.{changed, select, occurs, different, together}
+use Rattle.polyvalues.specs.Operations.{changed, reduce, select, occurs, different, together}
 use Rattle.polyvalues.proofs.Laws.Values.{equal-refl, equal-true, equal-false, not-equal, below-apart, below-trans}
 use Rattle.polyvalues.proofs.Laws.Holds.{holds, rises-tail}
 use Rattle.polyvalues.proofs.Laws.Simplify.{each-simplified}
@@ -92,10 +92,10 @@ together-rising [] qs r s = omega (arith, different-rising qs s)
 together-rising (p ∷ ps) qs r s =
     rw (occurs-append (p .value) ps qs, rises-once (p .value) ps r) (omega (arith, together-rising ps qs (rises-tail (p .value) ps r) s))
 
--- ---- selecting
+-- ---- reducing and selecting
 
 -- a test of the values that a list has
-pub each-occurs : (f : ℤ → Bool) (ps : List Pair) → each (λ p. f (p .value)) ps ≡ true → (u : ℤ) → occurs u ps ≡ true → f u ≡ true
+each-occurs : (f : ℤ → Bool) (ps : List Pair) → each (λ p. f (p .value)) ps ≡ true → (u : ℤ) → occurs u ps ≡ true → f u ≡ true
 each-occurs f [] e u o = absurd (false≢true o)
 each-occurs f (p ∷ ps) e u o =
     by-cases (equal u (p .value))
@@ -107,6 +107,13 @@ values-changed : (f : ℤ → Bool) (g : ℕ → ℕ) (ps : List Pair) → ((u :
 values-changed f g [] e = refl
 values-changed f g (p ∷ ps) e =
     ap₂ _&&_ (e (p .value) (rw (equal-refl (p .value)))) (values-changed f g ps (λ u o. e u (rw o (or-true (equal u (p .value))))))
+
+-- reducing adds no value
+pub occurs-reduce : (w i : ℕ) (b : Bool) (ps : List Pair) (u : ℤ) → occurs u (reduce w i b ps) ≡ true → occurs u ps ≡ true
+unfolding reduce
+occurs-reduce w i b ps =
+    each-occurs (λ u. occurs u ps) (reduce w i b ps)
+    (each-simplified w (λ p. occurs (p .value) ps) (λ p q e f. e) _ (values-changed (λ u. occurs u ps) (λ c. reduced w c i b) ps (λ u o. o)))
 
 pub select-count : (w i : ℕ) (done gone : List Pair) → length (select w i done gone) ≤ together done gone
 unfolding select together

@@ -1,6 +1,6 @@
 -- Well-formed polyvalues: the test agrees with the proposition, and what is made is well formed.
 use mathlib.Core.Path.{_≡_, refl, ap}
-use mathlib.Core.Bool.{Bool, true, false, _&&_, cond, false≢true}
+use mathlib.Core.Bool.{Bool, true, false, cond}
 use mathlib.Core.List.{List, [], _∷_}
 use Prim.Native.Nat.{ℕ, _^_, _≤_, _<_}
 use native.Mathlib.Omega.{arith}
@@ -12,7 +12,7 @@ use borrow.Author.Tests.{eq-eqb, eqb-true, le-leb, leb-true}
 use Rattle.conditions.specs.Below.{all}
 use Rattle.conditions.specs.Sets.{member}
 use Rattle.conditions.specs.Places.{withPlace}
-use Rattle.conditions.proofs.Laws.Below.{and-left, and-right, by-cases, all-at, all-of}
+use Rattle.conditions.proofs.Laws.Below.{and-left, and-right, by-cases, six, all-at, all-of}
 use Rattle.polyvalues.specs.declared.polyvalue.Pair.{Pair}
 use Rattle.polyvalues.specs.Values.{inRange}
 use Rattle.polyvalues.specs.Pairs.{applies, at, hits, certain}
@@ -50,14 +50,6 @@ true-well-formed w ps e =
       few = leb-true (length ps) mostPairs (f .4);
       values = f .5;
     }
-  where
-    six : (a b c d e f : Bool) → (a && b && c && d && e && f) ≡ true → (a ≡ true) × (b ≡ true) × (c ≡ true) × (d ≡ true) × (e ≡ true) × (f ≡ true)
-    six true true true true true f q = (refl, refl, refl, refl, refl, q)
-    six true true true true false f q = absurd (false≢true q)
-    six true true true false e f q = absurd (false≢true q)
-    six true true false d e f q = absurd (false≢true q)
-    six true false c d e f q = absurd (false≢true q)
-    six false b c d e f q = absurd (false≢true q)
 
 -- ---- values
 

@@ -1,13 +1,13 @@
 -- The loop's invariant: what is asked is asked of the items from i on.
 use borrow.Author.Needs.{needs}
-use mathlib.Core.Path.{_≡_, refl, sym, _∙_}
+use mathlib.Core.Path.{_≡_, refl}
 use Prim.Native.Nat.{_-_}
 use native.Mathlib.Numerals.{add-one}
 use native.Mathlib.Omega.{arith}
-use lib.ListN.{drop}
+use lib.ListN.{drop, drop-of-length-le}
 use Rattle.book.specs.Open.{goodItems}
 use Rattle.book.specs.Openings.{openingsOf}
-use Rattle.book.proofs.Making.{Held, openings-count, bad-found, good-later, good-done}
+use Rattle.book.proofs.Making.{Held, openings-count, bad-found, good-later}
 use Rattle.book.proofs.maker.Openings.are_good.Statement.{statement}
 use Rattle.book.proofs.maker.Openings.are_good.Tie as tie
 
@@ -48,7 +48,7 @@ loop-again c =
 returns-2 : tie.Need-returns-2 Inv-loop μ-loop
 returns-2 c =
     let held : Held (c .before .before .args .t1) = record { values = _; own = c .before .before .good .0 } in
-    sym (good-done (c .before .before .args .districts) (openingsOf (c .before .before .args .t1)) (c .before .loop .i) (omega (arith, openings-count held (c .before .before .pre)))) ∙ c .before .loop .inv
+    rw (drop-of-length-le (openingsOf (c .before .before .args .t1)) {i = c .before .loop .i} (omega (arith, openings-count held (c .before .before .pre)))) at (c .before .loop .inv)
 
 pub are-good-spec : {M : Type 1} → statement M
 are-good-spec =

@@ -3,11 +3,11 @@ use mathlib.Core.Path.{_≡_, refl, sym, _∙_}
 use Prim.Native.Nat.{_-_}
 use native.Mathlib.Numerals.{add-one}
 use native.Mathlib.Omega.{arith}
-use lib.ListN.{drop}
+use lib.ListN.{drop, drop-of-length-le}
 use borrow.Author.Needs.{needs}
 use Rattle.book.specs.Begin.{someStep, badStep}
 use Rattle.book.specs.States.{stepsOf}
-use Rattle.book.proofs.Reading.{some-found, some-later, some-done}
+use Rattle.book.proofs.Reading.{steps-more}
 use Rattle.book.proofs.program.Program.has_bad_step.Statement.{statement}
 use Rattle.book.proofs.program.Program.has_bad_step.Tie as tie
 
@@ -33,7 +33,7 @@ is-bad-requires : tie.Need-is-bad-requires Inv-loop μ-loop
 is-bad-requires c κs = search needs
 
 returns : tie.Need-returns Inv-loop μ-loop
-returns c = some-found badStep (c .before .before .before .before .before .before .args .t1) (c .before .before .before .before .loop .i) (omega (arith, c .before .before .before .before .before .len .ensures .0)) (c .before .before .before .before .loop .inv) (c .before .is-bad .ensures) (c .if1 .taken)
+returns c = rw (steps-more (c .before .before .before .before .before .before .args .t1) (c .before .before .before .before .loop .i) (omega (arith, c .before .before .before .before .before .len .ensures .0)), sym (c .before .is-bad .ensures) ∙ c .if1 .taken) at (c .before .before .before .before .loop .inv)
 
 add-i : tie.Need-add-i Inv-loop μ-loop
 add-i c = search needs
@@ -42,10 +42,10 @@ loop-less : tie.Need-loop-less Inv-loop μ-loop
 loop-less c = omega arith
 
 loop-again : tie.Need-loop-again Inv-loop μ-loop
-loop-again c = rw add-one (some-later badStep (c .before .before .before .before .before .before .args .t1) (c .before .before .before .before .loop .i) (omega (arith, c .before .before .before .before .before .len .ensures .0)) (c .before .before .before .before .loop .inv) (c .before .is-bad .ensures) (c .if1 .left))
+loop-again c = rw add-one (rw (steps-more (c .before .before .before .before .before .before .args .t1) (c .before .before .before .before .loop .i) (omega (arith, c .before .before .before .before .before .len .ensures .0)), sym (c .before .is-bad .ensures) ∙ c .if1 .left) at (c .before .before .before .before .loop .inv))
 
 returns-2 : tie.Need-returns-2 Inv-loop μ-loop
-returns-2 c = sym (some-done badStep (stepsOf (c .before .before .before .args .t1)) (c .before .loop .i) (omega (arith, c .before .before .len .ensures .0))) ∙ c .before .loop .inv
+returns-2 c = rw (drop-of-length-le (stepsOf (c .before .before .before .args .t1)) {i = c .before .loop .i} (omega (arith, c .before .before .len .ensures .0))) at (c .before .loop .inv)
 
 pub has-bad-step-spec : {M : Type 1} → statement M
 has-bad-step-spec =

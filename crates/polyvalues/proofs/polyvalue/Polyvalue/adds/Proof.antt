@@ -1,6 +1,6 @@
 -- The rows after it first, then the other polyvalue.
 use borrow.Author.Needs.{needs}
-use mathlib.Core.Path.{_≡_, sym, ap, _∙_}
+use mathlib.Core.Path.{_≡_, refl, sym, ap, _∙_}
 use mathlib.Core.List.{List}
 use Prim.Native.Nat.{suc, _≤_}
 use native.Mathlib.Numerals.{add-one}
@@ -14,7 +14,7 @@ use Rattle.polyvalues.specs.Operations.{occurs}
 use Rattle.polyvalues.proofs.Known.{Held, held-long}
 use Rattle.polyvalues.proofs.Inserting.{in-use-le}
 use Rattle.polyvalues.proofs.Joining.{in-use-row}
-use Rattle.polyvalues.proofs.Comparing.{adds-first, adds-second, adds-one}
+use Rattle.polyvalues.proofs.Comparing.{adds-is}
 use Rattle.polyvalues.proofs.polyvalue.Polyvalue.adds.Statement.{statement}
 use Rattle.polyvalues.proofs.polyvalue.Polyvalue.adds.Tie as tie
 
@@ -48,16 +48,16 @@ occurs-requires : tie.Need-occurs-requires
 occurs-requires c κs = search needs
 
 returns : tie.Need-returns
-returns c = (adds-first (value (c .before .before .before)) (after (c .before .before .before)) (others (c .before .before .before)) (later (c .before) ∙ c .if1 .taken), omega arith)
+returns c = (adds-is (value (c .before .before .before)) (after (c .before .before .before)) (others (c .before .before .before)) (later (c .before) ∙ c .if1 .taken) refl, omega arith)
 
 occurs-requires-2 : tie.Need-occurs-requires-2
 occurs-requires-2 c κs = search needs
 
 returns-2 : tie.Need-returns-2
-returns-2 c = (adds-second (value (c .before .before .before .before .before)) (after (c .before .before .before .before .before)) (others (c .before .before .before .before .before)) (later (c .before .before .before) ∙ c .before .before .if1 .left) (beside (c .before) ∙ c .if2 .taken), omega arith)
+returns-2 c = (adds-is (value (c .before .before .before .before .before)) (after (c .before .before .before .before .before)) (others (c .before .before .before .before .before)) (later (c .before .before .before) ∙ c .before .before .if1 .left) (beside (c .before) ∙ c .if2 .taken), omega arith)
 
 returns-3 : tie.Need-returns-3
-returns-3 c = (adds-one (value (c .before .before .before .before .before)) (after (c .before .before .before .before .before)) (others (c .before .before .before .before .before)) (later (c .before .before .before) ∙ c .before .before .if1 .left) (beside (c .before) ∙ c .if2 .left), omega arith)
+returns-3 c = (adds-is (value (c .before .before .before .before .before)) (after (c .before .before .before .before .before)) (others (c .before .before .before .before .before)) (later (c .before .before .before) ∙ c .before .before .if1 .left) (beside (c .before) ∙ c .if2 .left), omega arith)
 
 pub adds-spec : {M : Type 1} → statement M
 adds-spec =

@@ -4,14 +4,14 @@ use Prim.Native.Nat.{_-_}
 use native.Mathlib.Numerals.{add-one}
 use native.Mathlib.Omega.{arith}
 use lib.Dec.{eqb}
-use lib.ListN.{drop}
+use lib.ListN.{drop, drop-of-length-le}
 use borrow.Author.Needs.{needs}
 use borrow.Author.Tests.{not-true, not-false}
 use Rattle.conditions.specs.Places.{places}
 use Rattle.conditions.proofs.Laws.Conditions.{always-full}
 use Rattle.polyvalues.specs.Polyvalues.{inUse}
 use Rattle.polyvalues.specs.Checked.{belowAll, checkedFrom}
-use Rattle.polyvalues.proofs.Checking.{checked-more, checked-turn, checked-done}
+use Rattle.polyvalues.proofs.Joining.{in-use-more}
 use Rattle.polyvalues.proofs.polyvalue.Polyvalue.is_checked.Statement.{statement}
 use Rattle.polyvalues.proofs.polyvalue.Polyvalue.is_checked.Tie as tie
 
@@ -34,9 +34,8 @@ follows-requires : tie.Need-follows-requires Inv-loop μ-loop
 follows-requires c κs = search needs
 
 returns : tie.Need-returns Inv-loop μ-loop
-returns c =
-    let row = checked-more places (c .before .before .before .before .loop .last .value) (c .before .before .before .before .loop .covered .0) (c .before .before .before .before .before .before .args .self) (c .before .before .before .before .loop .i) (c .before .before .row .ensures) (omega (arith, c .before .before .before .before .before .len .ensures .0)) in
-    sym (sym (c .before .before .before .before .loop .inv) ∙ row ∙ rw (sym (c .before .follows .ensures) ∙ not-true _ (c .if1 .taken)))
+unfolding checkedFrom
+returns c = rw (in-use-more (c .before .before .before .before .before .before .args .self) (c .before .before .before .before .loop .i) (c .before .before .row .ensures) (omega (arith, c .before .before .before .before .before .len .ensures .0)), sym (c .before .follows .ensures) ∙ not-true _ (c .if1 .taken)) at (c .before .before .before .before .loop .inv)
 
 union-requires : tie.Need-union-requires Inv-loop μ-loop
 union-requires c κs = search needs
@@ -48,16 +47,19 @@ loop-less : tie.Need-loop-less Inv-loop μ-loop
 loop-less c = omega arith
 
 loop-again : tie.Need-loop-again Inv-loop μ-loop
+unfolding checkedFrom
 loop-again c =
-    rw add-one
-    (checked-turn places (c .before .before .before .before .before .loop .last .value) (c .before .before .before .before .before .loop .covered .0) (c .before .before .before .before .before .before .before .args .self) (c .before .before .before .before .before .loop .i) (c .before .before .before .row .ensures) (omega (arith, c .before .before .before .before .before .before .len .ensures .0)) (c .before .before .before .before .before .loop .inv)
-    (sym (c .before .before .follows .ensures) ∙ not-false _ (c .before .if1 .left)) (c .union .ensures))
+    rw (add-one, c .union .ensures)
+    (rw (in-use-more (c .before .before .before .before .before .before .before .args .self) (c .before .before .before .before .before .loop .i) (c .before .before .before .row .ensures) (omega (arith, c .before .before .before .before .before .before .len .ensures .0)), sym (c .before .before .follows .ensures) ∙ not-false _ (c .before .if1 .left)) at (c .before .before .before .before .before .loop .inv))
 
 same-requires : tie.Need-same-requires Inv-loop μ-loop
 same-requires c κs = search needs
 
 returns-2 : tie.Need-returns-2 Inv-loop μ-loop
-returns-2 c = c .same .ensures ∙ ap (eqb (c .before .before .loop .covered .0)) always-full ∙ sym (checked-done places _ _ (inUse (c .before .before .before .before .args .self)) (c .before .before .loop .i) (omega (arith, c .before .before .before .len .ensures .0))) ∙ c .before .before .loop .inv
+unfolding checkedFrom
+returns-2 c =
+    c .same .ensures ∙ ap (eqb (c .before .before .loop .covered .0)) always-full
+    ∙ rw (drop-of-length-le (inUse (c .before .before .before .before .args .self)) {i = c .before .before .loop .i} (omega (arith, c .before .before .before .len .ensures .0))) at (c .before .before .loop .inv)
 
 pub is-checked-spec : {M : Type 1} → statement M
 is-checked-spec =
