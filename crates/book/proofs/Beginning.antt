@@ -21,9 +21,9 @@ use Rattle.book.specs.Answers.{firstOf}
 use Rattle.book.specs.Rows.{rowsFrom, rows}
 use Rattle.book.specs.Book.{mostDistricts, lastNumber, void, freePlace, withItems}
 use Rattle.book.specs.Items.{becomes}
-use Rattle.book.specs.Programs.{steps, touches}
+use Rattle.book.specs.Programs.{steps, touches, someStep}
 use Rattle.book.specs.Records.{beginRecord}
-use Rattle.book.specs.Begin.{badProgram, someStep, outside, someBusy, tooMany, beginAnswer, touchesDistrict, beginItem, begun, begins, begin}
+use Rattle.book.specs.Begin.{badProgram, outside, someBusy, tooMany, beginAnswer, touchesDistrict, beginItem, begun, begins, begin}
 use Rattle.book.specs.Alternatives.{WorkedOut}
 use Rattle.book.specs.SoundTest.{sound}
 use Rattle.conditions.proofs.Laws.Below.{by-cases}

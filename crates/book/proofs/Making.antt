@@ -5,7 +5,6 @@ use mathlib.Core.List.{List, _++_, map}
 use Prim.Native.Nat.{ℕ, suc, _-_, _≤_, _<_}
 use native.Mathlib.Omega.{arith}
 use denote.Shadow.{shadow}
-use lib.IntN.{pos}
 use lib.ListN.{length, getD, drop, replicate, length-map, length-take}
 use mir.Val.{Val}
 use borrow.Author.Tests.{not-false, not-true}
@@ -16,7 +15,7 @@ use Rattle.book.specs.declared.Item.{Item}
 use Rattle.book.specs.declared.Opening.{Opening}
 use Rattle.book.specs.declared.maker.Openings.{Openings}
 use Rattle.book.specs.Book.{mostItems, noItem, noBook}
-use Rattle.book.specs.Open.{goodItem, goodItems, goodOpening, openedItem, openedBook, opened}
+use Rattle.book.specs.Open.{noOpening, goodItem, goodItems, goodOpening, openedItem, openedBook, opened}
 use Rattle.book.specs.Openings.{openingsOf, openedRows}
 use Rattle.book.proofs.Laws.Openings.{rows-opened}
 use Rattle.book.proofs.Opening as TOpening
@@ -29,10 +28,6 @@ pub record Held (t : Openings) : Type 0 where
 
 pub items-long : {t : Openings} → Held t → length (t .items) ≡ mostItems
 items-long {t} h = sym (length-map (t .items) (TOpening.the-field .into)) ∙ h .own .1 .1 .1 .0 .1 .0 .1
-
--- what the logic reads past the rows
-abbrev pub noOpening : Opening
-noOpening = record { district = 0; value = pos 0 }
 
 pub openings-count : {t : Openings} → Held t → t .count ≤ mostItems → length (openingsOf t) ≡ t .count
 unfolding openingsOf

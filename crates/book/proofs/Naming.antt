@@ -14,8 +14,8 @@ use mir.Val.{Fits, SFits, ofZ, toZ}
 use borrow.Author.Tests.{lt-ltb, ltb-true, not-false}
 use Rattle.conditions.proofs.Laws.Below.{or-left, or-right, by-cases}
 use Rattle.book.specs.declared.Step.{Step}
-use Rattle.book.specs.Programs.{isCopy, numbered, names, touches}
-use Rattle.book.specs.Begin.{someStep, inTable, outside}
+use Rattle.book.specs.Programs.{isCopy, numbered, someStep}
+use Rattle.book.specs.Begin.{inTable, outside}
 use Rattle.book.specs.States.{noStep}
 use Rattle.book.proofs.Laws.Touched.{item-below}
 
@@ -72,8 +72,3 @@ pub some-none : (f : Step → Bool) (xs : List Step) (i : ℕ) → someStep f xs
 some-none f [] i e h = absurd (omega arith)
 some-none f (x ∷ xs) zero e h = or-left (f x) _ e
 some-none f (x ∷ xs) (suc i) e h = some-none f xs i (or-right (f x) _ e) (omega arith)
-
-pub touches-some : (xs : List Step) (i : ℕ) → touches xs i ≡ someStep (λ x. names x i) xs
-unfolding touches
-touches-some [] i = refl
-touches-some (x ∷ xs) i = ap (λ (b : Bool). names x i || b) (touches-some xs i)

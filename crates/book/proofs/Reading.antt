@@ -1,15 +1,14 @@
 -- Programs in rows: what holding one tells of it, how bytes are read into one, and its steps in use.
 use mathlib.Core.Path.{_≡_, sym, ap, ap₂, _∙_}
 use mathlib.Core.Bool.{false, not, _||_}
-use mathlib.Core.List.{List, [], _∷_, _++_, append-assoc}
+use mathlib.Core.List.{List, _∷_, _++_, map-id}
 use Prim.Native.Nat.{ℕ, suc, _+_, _-_, _*_, _%_, _≤_, _<_, min}
 use native.Mathlib.Nat.{add-comm}
-use native.Mathlib.Omega.{arith}
 use denote.Shadow.{shadow}
 use lib.Dec.{eqb}
 use lib.IntN.{ℤ}
-use lib.ListN.{length, getD, take, drop, set, replicate, length-map, length-take}
-use lib.Seq.{length-take-le, take-length, take-append-seam, take-suc, set-at}
+use lib.ListN.{length, getD, take, drop, replicate, length-map, length-take}
+use lib.Seq.{take-length, take-append-seam}
 use mir.Val.{Val}
 use borrow.Author.Tests.{ltb-false}
 use Rattle.conditions.proofs.Laws.Below.{or-left, or-right}
@@ -18,10 +17,11 @@ use Rattle.polyvalues.specs.Values.{ofBytes}
 use Rattle.book.specs.declared.Step.{Step}
 use Rattle.book.specs.declared.program.Program.{Program}
 use Rattle.book.specs.Book.{mostItems}
-use Rattle.book.specs.Programs.{steps}
-use Rattle.book.specs.Begin.{mostSteps, someStep, badLength, badProgram, outside}
+use Rattle.book.specs.Programs.{steps, someStep}
+use Rattle.book.specs.Begin.{mostSteps, badLength, badProgram, outside}
 use Rattle.book.specs.States.{noStep, stepsOf, programOf}
 use Rattle.book.proofs.Laws.Steps.{getD-steps}
+use Rattle.book.proofs.Filling.{filledUpto}
 use Rattle.book.proofs.Step as TStep
 use Rattle.book.proofs.program.Program as TProgram
 use Rattle.book.proofs.Naming.{some-none}
@@ -56,19 +56,12 @@ good-count bytes good = few-steps bytes (or-left (badLength bytes) _ good)
 -- ---- a program that is read: the first i steps are there
 
 abbrev pub readUpto : ℕ → List Step → List Step
-readUpto i xs = take i xs ++ replicate (mostSteps - i) noStep
-
-pub read-more : (xs : List Step) (i : ℕ) → i < length xs → length xs ≤ mostSteps → set (readUpto i xs) i (getD xs i noStep) ≡ readUpto (suc i) xs
-read-more xs i h l =
-    let more : mostSteps - i ≡ suc (mostSteps - suc i) = omega arith in
-    ap (λ (n : ℕ). set (take i xs ++ replicate n noStep) i (getD xs i noStep)) more
-    ∙ set-at (take i xs) noStep (replicate (mostSteps - suc i) noStep) (getD xs i noStep) i (length-take-le i xs (omega arith))
-    ∙ sym (ap (λ (l : List Step). l ++ replicate (mostSteps - suc i) noStep) (take-suc xs i noStep h) ∙ append-assoc (take i xs) (getD xs i noStep ∷ []) (replicate (mostSteps - suc i) noStep))
+readUpto i xs = filledUpto (λ (x : Step). x) noStep mostSteps i xs
 
 pub read-all : (xs : List Step) (i n : ℕ) {rows : List Step} → i ≡ length xs → n ≡ length xs → rows ≡ readUpto i xs → record { count = n; steps = rows } ≡ programOf xs
 unfolding programOf
 read-all xs i n e f is =
-    let all : readUpto i xs ≡ xs ++ replicate (mostSteps - length xs) noStep = ap (λ (m : ℕ). readUpto m xs) e ∙ ap (λ (l : List Step). l ++ replicate (mostSteps - length xs) noStep) (take-length xs) in
+    let all : readUpto i xs ≡ xs ++ replicate (mostSteps - length xs) noStep = ap (λ (m : ℕ). readUpto m xs) e ∙ ap (λ (l : List Step). l ++ replicate (mostSteps - length xs) noStep) (map-id (take (length xs) xs) ∙ take-length xs) in
     let rows-are = is ∙ all in
     λ k. record { count = f k; steps = rows-are k }
 

@@ -38,9 +38,9 @@ use Rattle.book.specs.declared.alternatives.Alternative.{Alternative}
 use Rattle.book.specs.declared.alternatives.Spread.{Spread}
 use Rattle.book.specs.declared.alternatives.Worked.{Worked}
 use Rattle.book.specs.Book.{mostItems, void, itemAt}
-use Rattle.book.specs.Programs.{takes, declined, run, touches}
+use Rattle.book.specs.Programs.{takes, declined, run, touches, someStep}
 use Rattle.book.specs.SoundTest.{sound}
-use Rattle.book.specs.Begin.{someStep, outside, heldAt, declinesAt, results, tooMany}
+use Rattle.book.specs.Begin.{outside, heldAt, declinesAt, results, tooMany}
 use Rattle.book.specs.States.{stateOf, stateRows, ran}
 use Rattle.book.specs.Alternatives.{blockBelow, block, someDeclines, someGrants, StartsAs, joinedRow, rowAfter, RowsAfter, Covers, nothingWorked, WorkedOut}
 use Rattle.book.proofs.Laws.Programs.{declined-reads, run-reads}

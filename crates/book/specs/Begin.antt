@@ -24,7 +24,7 @@ use Rattle.book.specs.declared.Step.{Step}
 use Rattle.book.specs.Answers.{accepted, firstOf}
 use Rattle.book.specs.Rows.{rows}
 use Rattle.book.specs.Book.{mostDistricts, lastNumber, itemAt, itemOn, freePlace}
-use Rattle.book.specs.Programs.{steps, isCopy, declined, run, touches}
+use Rattle.book.specs.Programs.{steps, isCopy, declined, run, someStep, touches}
 use Rattle.book.specs.Records.{beginRecord}
 use Rattle.book.specs.Items.{becomes}
 use Rattle.book.specs.Forget.{forget}
@@ -35,11 +35,6 @@ use Rattle.book.specs.Transactions.{unsound}
 -- how many steps a program may have
 abbrev pub mostSteps : ℕ
 mostSteps = 8
-
--- a step passes a test
-abbrev pub someStep : (Step → Bool) → List Step → Bool
-someStep f [] = false
-someStep f (x ∷ xs) = f x || someStep f xs
 
 -- "0 or over 8 steps, bytes not a multiple of 4"
 abbrev pub badLength : List ℕ → Bool

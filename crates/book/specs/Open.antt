@@ -1,18 +1,23 @@
 -- "Open. Only a good sheet opens a book: certain values, pending equal to held, all districts idle, none open, last number 0." (document 01, Events)
 -- "a call that makes a book returns, refused, the all-zero book" (Answer numbers)
-use mathlib.Core.Bool.{Bool, true, _&&_, cond}
-use mathlib.Core.List.{List, [], _∷_, _++_, map}
+use mathlib.Core.Bool.{Bool, _&&_, cond}
+use mathlib.Core.List.{List, _++_, map}
 use Prim.Native.Nat.{ℕ, _-_}
 use lib.Dec.{leb, ltb}
+use lib.IntN.{pos}
 use lib.ListN.{length, replicate}
 use Rattle.polyvalues.specs.declared.polyvalue.Polyvalue.{Polyvalue}
 use Rattle.polyvalues.specs.Values.{inRange}
 use Rattle.polyvalues.specs.Pairs.{certain}
-use Rattle.polyvalues.specs.Polyvalues.{packed}
+use Rattle.polyvalues.specs.Polyvalues.{each, packed}
 use Rattle.book.specs.declared.Book.{Book}
 use Rattle.book.specs.declared.Item.{Item}
 use Rattle.book.specs.declared.Opening.{Opening}
 use Rattle.book.specs.Book.{mostDistricts, mostItems, noRecord, noItem, noOpen, noBook}
+
+-- an opening past the count
+abbrev pub noOpening : Opening
+noOpening = record { district = 0; value = pos 0 }
 
 -- an item is in one of the districts and has a value in range
 abbrev pub goodItem : ℕ → Opening → Bool
@@ -20,8 +25,7 @@ goodItem districts x = ltb (x .district) districts && inRange (x .value)
 
 -- each item is good
 abbrev pub goodItems : ℕ → List Opening → Bool
-goodItems districts [] = true
-goodItems districts (x ∷ xs) = goodItem districts x && goodItems districts xs
+goodItems districts xs = each (goodItem districts) xs
 
 -- "1 to 8 districts, 1 to 32 items"
 unfoldable pub goodOpening : ℕ → List Opening → Bool

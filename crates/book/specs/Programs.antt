@@ -76,6 +76,11 @@ declined xs s = declinedFrom 1 xs s
 unfoldable pub run : List Step → (ℕ → ℤ) → ℕ → ℤ
 run xs s = cond (eqb (declined xs s) 0) (afterAll xs s) s
 
+-- a step of it passes a test
+abbrev pub someStep : (Step → Bool) → List Step → Bool
+someStep f [] = false
+someStep f (x ∷ xs) = f x || someStep f xs
+
 -- ---- "Touched items are all those named by any step, even after a step that declines."
 
 -- a step names item i: as its item, or as the one that a Copy takes its value from
@@ -84,5 +89,4 @@ names x i = eqb (x .item) i || (isCopy x && eqb (numbered (x .operand)) i)
 
 -- a program touches item i
 unfoldable pub touches : List Step → ℕ → Bool
-touches [] i = false
-touches (x ∷ xs) i = names x i || touches xs i
+touches xs i = someStep (λ x. names x i) xs

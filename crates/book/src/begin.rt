@@ -9,9 +9,9 @@ ghost use Rattle.book.specs.declared.Answer.the-variants.{Accepted, TooM
 ghost use Rattle.book.specs.Book.{mostDistricts, mostItems, lastNumber, freePlace};
 ghost use Rattle.book.specs.Items.{becomes};
 ghost use Rattle.book.specs.States.{stepsOf};
-ghost use Rattle.book.specs.Programs.{steps};
+ghost use Rattle.book.specs.Programs.{steps, someStep};
 ghost use Rattle.book.specs.Alternatives.{WorkedOut};
-ghost use Rattle.book.specs.Begin.{badProgram, someStep, outside, someBusy, tooMany, touchesDistrict, begun, begins, begin};
+ghost use Rattle.book.specs.Begin.{badProgram, outside, someBusy, tooMany, touchesDistrict, begun, begins, begin};
 ghost use Rattle.book.specs.SoundTest.{sound};
 use crate::Answer;
 use crate::Begun;

@@ -39,9 +39,6 @@ module _ (w : ℕ) (b : Book) (t : Shaped w b) (g : ℕ → Bool) (a : ℕ) (say
   abbrev n : ℕ
   n = suc (b .last .0)
 
-  abbrev c : Book
-  c = begin w b bytes .book
-
   sound : Sound w b
   sound = begin-tests w b bytes e .0
 

@@ -5,7 +5,7 @@ use mathlib.Core.Bool.{Bool, true, false, not, _&&_, _||_, cond}
 use mathlib.Core.List.{List, [], _∷_}
 use Prim.Native.Nat.{ℕ, suc, _^_, _≤_, _<_}
 use lib.Dec.{eqb, ltb}
-use lib.IntN.{ℤ, pos}
+use lib.IntN.{ℤ}
 use lib.ListN.{length, getD}
 use Rattle.conditions.specs.declared.condition.Condition.{Condition}
 use Rattle.conditions.specs.declared.product.Product.{Product}
@@ -26,15 +26,15 @@ use Rattle.book.specs.declared.Opening.{Opening}
 use Rattle.book.specs.declared.Record.{Record}
 use Rattle.book.specs.Answers.{answerNumber, accepted}
 use Rattle.book.specs.Book.{lastNumber, noRecord, noBook, recordAt, itemAt, openAt, idle, isOpen, placeOf, freePlace, someDepends, someOn, openOf}
-use Rattle.book.specs.Programs.{steps, run, touches}
+use Rattle.book.specs.Programs.{steps, run, touches, someStep}
 use Rattle.book.specs.Items.{there}
 use Rattle.book.specs.Records.{computingOn, busyOn, beginRecord, readyRecord, hearRecord}
 use Rattle.book.specs.Forget.{decided, remembered}
 use Rattle.book.specs.Transactions.{unsound, notOpen, noDistrict}
-use Rattle.book.specs.Open.{goodOpening, opened}
+use Rattle.book.specs.Open.{noOpening, goodOpening, opened}
 use Rattle.book.specs.Sound.{Sound}
 use Rattle.book.specs.SoundTest.{sound}
-use Rattle.book.specs.Begin.{someStep, badProgram, outside, heldAt, grant, someBusy, tooMany, touchesDistrict, newRow, begin}
+use Rattle.book.specs.Begin.{badProgram, outside, heldAt, grant, someBusy, tooMany, touchesDistrict, newRow, begin}
 use Rattle.book.specs.Ready.{reported}
 use Rattle.book.specs.GiveUp.{marked}
 use Rattle.book.specs.Decide.{someNotReady, withDecision}
@@ -226,7 +226,7 @@ pub record Demand2 (w : ℕ) : Type 0 where
 
 -- the value that item i was opened with, and its district
 abbrev pub openingOf : List Opening → ℕ → Opening
-openingOf xs i = getD xs i (record { district = 0; value = pos 0 })
+openingOf xs i = getD xs i noOpening
 
 -- the record of item i's district
 abbrev pub districtOf : Book → ℕ → Record

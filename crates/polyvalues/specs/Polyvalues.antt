@@ -15,10 +15,10 @@ use Rattle.polyvalues.specs.declared.polyvalue.Joined.{Joined}
 use Rattle.polyvalues.specs.Values.{inRange, below}
 use Rattle.polyvalues.specs.Pairs.{noPair, blank, assignments, hits}
 
--- each pair passes a test
-abbrev pub each : (Pair → Bool) → List Pair → Bool
+-- each of a list passes a test
+abbrev pub each : {A : Type 0} → (A → Bool) → List A → Bool
 each f [] = true
-each f (p ∷ ps) = f p && each f ps
+each f (x ∷ xs) = f x && each f xs
 
 -- each value is above the one before it, and the first is above v
 abbrev pub risesFrom : ℤ → List Pair → Bool

@@ -18,6 +18,7 @@ use Rattle.sheet.specs.declared.events.EventAt.the-variants.{Read as Fou
 use Rattle.sheet.specs.Events.{atDistrict, onNumber, fields, event, answered, eventAt}
 use Rattle.sheet.specs.Sections.{value, item}
 use Rattle.sheet.specs.Told.{Told, toldEvent}
+use Rattle.sheet.proofs.Laws.Open.{no-read}
 
 -- ---- what the code was told by a reader that it called
 
@@ -68,16 +69,16 @@ module _ (test : ℕ → Bool) (at : ℕ) where
   pub no-byte : (l : List ℕ) {place : ℕ} → byte any at l ≡ wrong place → byte test at l ≡ wrong place
   unfolding byte
   no-byte [] e = e
-  no-byte (b ∷ l) e = let z : _≡_ {A = ℕ} 0 1 = cc in absurd (omega arith)
+  no-byte (b ∷ l) e = no-read (sym e)
 
   pub good-byte : (l : List ℕ) {b next : ℕ} {rest : List ℕ} → byte any at l ≡ right b next rest → test b ≡ true → byte test at l ≡ right b next rest
   unfolding byte
-  good-byte [] e t = let z : _≡_ {A = ℕ} 0 1 = cc in absurd (omega arith)
+  good-byte [] e t = no-read e
   good-byte (c ∷ l) {b} e t = let same : c ≡ b = cc in rw (same, t) (cc)
 
   pub bad-byte : (l : List ℕ) {b next : ℕ} {rest : List ℕ} → byte any at l ≡ right b next rest → test b ≡ false → byte test at l ≡ wrong at
   unfolding byte
-  bad-byte [] e t = let z : _≡_ {A = ℕ} 0 1 = cc in absurd (omega arith)
+  bad-byte [] e t = no-read e
   bad-byte (c ∷ l) {b} e t = let same : c ≡ b = cc in rw (same, t)
 
 -- the byte at a place

@@ -3,16 +3,13 @@ use mathlib.Core.Path.{_≡_, sym, ap, _∙_}
 use mathlib.Core.List.{List, [], _∷_, _++_, append-assoc}
 use Prim.Native.Nat.{ℕ, suc, _+_, _-_, _≤_, _<_}
 use native.Mathlib.Omega.{arith}
-use lib.IntN.{pos}
 use lib.ListN.{length, take, set, replicate, length-append}
 use lib.Seq.{set-at, take-at}
 use Rattle.book.specs.declared.Opening.{Opening}
 use Rattle.book.specs.Book.{mostItems}
+use Rattle.book.specs.Open.{noOpening}
 use Rattle.book.specs.Openings.{openingsOf}
-use Rattle.sheet.specs.declared.events.Event.{Event}
-use Rattle.sheet.specs.Readers.{Read, wrong, right, repeat}
-use Rattle.sheet.specs.Events.{event, oneMore}
-use Rattle.sheet.specs.Sections.{item, itemMore}
+use Rattle.sheet.specs.Readers.{Read, wrong, right, repeat, oneMore}
 
 module _ {A : Type 0} (reader : A → ℕ → List ℕ → Read A) (n : ℕ) where
   pub repeat-all : (x : A) (at : ℕ) (l : List ℕ) → repeat n reader x at l ≡ repeat (n - 0) reader x at l
@@ -34,28 +31,16 @@ module _ {A : Type 0} (reader : A → ℕ → List ℕ → Read A) (n : ℕ) whe
 
 -- ---- one more
 
-pub event-more : (es : List Event) (at : ℕ) (l : List ℕ) {e : Event} {next : ℕ} {rest : List ℕ} → event at l ≡ right e next rest → oneMore es at l ≡ right (es ++ (e ∷ [])) next rest
-unfolding oneMore
-event-more es at l q = rw q
+module _ {A : Type 0} (reader : ℕ → List ℕ → Read A) (xs : List A) (at : ℕ) (l : List ℕ) where
+  pub one-more : {x : A} {next : ℕ} {rest : List ℕ} → reader at l ≡ right x next rest → oneMore reader xs at l ≡ right (xs ++ (x ∷ [])) next rest
+  unfolding oneMore
+  one-more q = rw q
 
-pub no-event : (es : List Event) (at : ℕ) (l : List ℕ) {place : ℕ} → event at l ≡ wrong place → oneMore es at l ≡ wrong place
-unfolding oneMore
-no-event es at l q = rw q
-
-module _ (districts : ℕ) (xs : List Opening) (at : ℕ) (l : List ℕ) where
-  pub item-more : {x : Opening} {next : ℕ} {rest : List ℕ} → item districts at l ≡ right x next rest → itemMore districts xs at l ≡ right (xs ++ (x ∷ [])) next rest
-  unfolding itemMore
-  item-more q = rw q
-
-  pub no-item : {place : ℕ} → item districts at l ≡ wrong place → itemMore districts xs at l ≡ wrong place
-  unfolding itemMore
-  no-item q = rw q
+  pub none-more : {place : ℕ} → reader at l ≡ wrong place → oneMore reader xs at l ≡ wrong place
+  unfolding oneMore
+  none-more q = rw q
 
 -- ---- items in rows
-
--- a row that no item was read into
-abbrev noOpening : Opening
-noOpening = record { district = 0; value = pos 0 }
 
 -- the first of them are read, and the other rows are blank
 abbrev pub inRows : List Opening → List Opening

@@ -1,7 +1,7 @@
 -- "events: `01` steps n (1 byte) and 4n bytes; `02` ready, `03` give up, `06` hear: number (2), district (1); `04` complete, `05` abort: number (2); `07` show: item (1)."
 -- "Step counts, and the numbers, districts and items in events, are judged by the events." (document 01, The sheet and the program)
 use mathlib.Core.Bool.{cond}
-use mathlib.Core.List.{List, [], _∷_, _++_}
+use mathlib.Core.List.{List}
 use Prim.Native.Nat.{ℕ, _*_}
 use lib.Dec.{eqb}
 use lib.ListN.{drop}
@@ -41,10 +41,6 @@ fields kind at s =
 -- an event: a kind that is none of these is a wrong byte
 unfoldable pub event : ℕ → List ℕ → Read Event
 event at s = andThen (byte (between 1 7) at s) fields
-
--- one event more
-unfoldable pub oneMore : List Event → ℕ → List ℕ → Read (List Event)
-oneMore es at s = andThen (event at s) (λ e at s. right (es ++ (e ∷ [])) at s)
 
 -- as the code answers it: the event and the place behind it, or the place where there is none
 abbrev pub answered : Read Event → EventAt

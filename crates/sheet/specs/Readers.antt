@@ -1,7 +1,7 @@
 -- "13 gives the place of the first wrong byte in reading order (a value out of range: its first byte), or the sheet's length if it ends early (also inside a value), or the
 -- first byte left over." (document 01, The sheet and the program) A reader is handed a place of the sheet and the bytes from there on.
 use mathlib.Core.Bool.{Bool, true, _&&_, cond}
-use mathlib.Core.List.{List, [], _∷_}
+use mathlib.Core.List.{List, [], _∷_, _++_}
 use Prim.Native.Nat.{ℕ, zero, suc, _+_, _*_, _^_}
 use lib.Dec.{leb}
 use lib.ListN.{length, take, drop}
@@ -20,6 +20,10 @@ andThen (right x at s) more = more x at s
 unfoldable pub repeat : {A : Type 0} → ℕ → (A → ℕ → List ℕ → Read A) → A → ℕ → List ℕ → Read A
 repeat zero reader x at s = right x at s
 repeat (suc n) reader x at s = andThen (reader x at s) (repeat n reader)
+
+-- one more of what a reader reads, behind those that were read before
+unfoldable pub oneMore : {A : Type 0} → (ℕ → List ℕ → Read A) → List A → ℕ → List ℕ → Read (List A)
+oneMore reader xs at s = andThen (reader at s) (λ x at s. right (xs ++ (x ∷ [])) at s)
 
 -- a byte that passes a test: a wrong one is at its own place
 unfoldable pub byte : (ℕ → Bool) → ℕ → List ℕ → Read ℕ

@@ -1,5 +1,5 @@
 -- "Sections in a fixed order, each after its count" (document 01, The sheet and the program)
-use mathlib.Core.List.{List, [], _∷_, _++_}
+use mathlib.Core.List.{List, []}
 use Prim.Native.Nat.{ℕ}
 use lib.Dec.{ltb}
 use lib.IntN.{ℤ}
@@ -7,8 +7,8 @@ use Rattle.polyvalues.specs.Values.{inRange, signed}
 use Rattle.book.specs.declared.Opening.{Opening}
 use Rattle.book.specs.Book.{mostDistricts, mostItems}
 use Rattle.sheet.specs.declared.events.Event.{Event}
-use Rattle.sheet.specs.Readers.{Read, right, andThen, repeat, byte, word, end, any, between}
-use Rattle.sheet.specs.Events.{oneMore}
+use Rattle.sheet.specs.Readers.{Read, right, andThen, repeat, oneMore, byte, word, end, any, between}
+use Rattle.sheet.specs.Events.{event}
 
 -- ---- "1. count (1 byte, 1 to 8), then a district code each (1 byte, 1 to 255, strictly rising)"
 
@@ -32,13 +32,9 @@ item count at s =
     andThen (byte (λ d. ltb d count) at s) (λ d at s.
     andThen (value at s) (λ v at s. right (record { district = d; value = v }) at s))
 
--- one item more
-unfoldable pub itemMore : ℕ → List Opening → ℕ → List ℕ → Read (List Opening)
-itemMore count xs at s = andThen (item count at s) (λ x at s. right (xs ++ (x ∷ [])) at s)
-
 -- the items
 unfoldable pub items : ℕ → ℕ → List ℕ → Read (List Opening)
-items count at s = andThen (byte (between 1 mostItems) at s) (λ n at s. repeat n (itemMore count) [] at s)
+items count at s = andThen (byte (between 1 mostItems) at s) (λ n at s. repeat n (oneMore (item count)) [] at s)
 
 -- ---- "3. count (2 bytes, high first; 0 allowed), then events"
 
@@ -52,7 +48,7 @@ pub record Events : Type 0 where
 unfoldable pub events : ℕ → List ℕ → Read Events
 events at s =
     andThen (word any at s) (λ n first s.
-    andThen (repeat n oneMore [] first s) (λ es at s. right (record { count = n; first = first; each = es }) at s))
+    andThen (repeat n (oneMore event) [] first s) (λ es at s. right (record { count = n; first = first; each = es }) at s))
 
 -- ---- the whole sheet
 

@@ -5,9 +5,9 @@ ghost use lib.ListN.{drop};
 ghost use Rattle.book.specs.Book.{mostItems};
 ghost use Rattle.book.specs.Openings.{openingsOf};
 ghost use Rattle.sheet.specs.declared.events.Event.{Event};
-ghost use Rattle.sheet.specs.Readers.{repeat};
-ghost use Rattle.sheet.specs.Events.{oneMore};
-ghost use Rattle.sheet.specs.Sections.{code, districts, item, itemMore, items, events};
+ghost use Rattle.sheet.specs.Readers.{repeat, oneMore};
+ghost use Rattle.sheet.specs.Events.{event};
+ghost use Rattle.sheet.specs.Sections.{code, districts, item, items, events};
 ghost use Rattle.sheet.specs.Told.{Told};
 use crate::events::EventAt;
 use crate::events::event_at;
@@ -133,7 +133,7 @@ fn item_at(sheet: &[u8], at: usize, districts: usize) -> ItemAt
 // So many items.
 fn items_from(sheet: &[u8], start: usize, districts: usize, n: usize) -> ItemsRead
     requires { ⌜ n ≤ mostItems ⌝ }
-    ensures { λ r. ⌜ Told (repeat n (itemMore districts) [] start (drop start (now (sheet .entry)))) (now (sheet .entry)) (r .good) (r .place) (openingsOf (r .items)) ⌝ }
+    ensures { λ r. ⌜ Told (repeat n (oneMore (item districts)) [] start (drop start (now (sheet .entry)))) (now (sheet .entry)) (r .good) (r .place) (openingsOf (r .items)) ⌝ }
     ensures { λ r. ⌜ r .items .count ≤ mostItems ⌝ }
 {
     let none = Opening {
@@ -195,7 +195,7 @@ pub(crate) fn items(sheet: &[u8], at: usize, districts: usize) -> ItemsRead
 
 // Where so many events end.
 fn events_from(sheet: &[u8], start: usize, n: usize) -> Number
-    ensures { λ r. ⌜ ((es : List Event) × (Told (repeat n oneMore [] start (drop start (now (sheet .entry)))) (now (sheet .entry)) (r .good) (r .place) es)) ⌝ }
+    ensures { λ r. ⌜ ((es : List Event) × (Told (repeat n (oneMore event) [] start (drop start (now (sheet .entry)))) (now (sheet .entry)) (r .good) (r .place) es)) ⌝ }
 {
     let mut at = start;
     let mut i: usize = 0;

@@ -73,13 +73,13 @@ module _ (w : ℕ) (b : Book) (xs : List Step) where
       Same i = touches xs i ≡ true → heldAt b c i ≡ heldAt b a i
 
       go : (u : Bool) → touches xs k ≡ u → member (cond u (intersection w (blockBelow w b xs a k) (conditionAt b a k)) (blockBelow w b xs a k)) c ≡ true
-          → (member (blockBelow w b xs a k) c ≡ true → (j : ℕ) → j < k → touches xs j ≡ true → heldAt b c j ≡ heldAt b a j) → heldAt b c i ≡ heldAt b a i
+          → (member (blockBelow w b xs a k) c ≡ true → (j : ℕ) → j < k → Same j) → heldAt b c i ≡ heldAt b a i
       go true q f rest =
           let both = sym (member-intersection w (blockBelow w b xs a k) (conditionAt b a k) c hc) ∙ f in
-          below-more (λ i. touches xs i ≡ true → heldAt b c i ≡ heldAt b a i) k (rest (and-left (member (blockBelow w b xs a k) c) _ both))
+          below-more Same k (rest (and-left (member (blockBelow w b xs a k) c) _ both))
           (λ s. last (and-right (member (blockBelow w b xs a k) c) _ both)) i (omega arith) t
       go false q f rest =
-          below-more (λ i. touches xs i ≡ true → heldAt b c i ≡ heldAt b a i) k (rest f) (λ s. absurd (true≢false (sym s ∙ q))) i (omega arith) t
+          below-more Same k (rest f) (λ s. absurd (true≢false (sym s ∙ q))) i (omega arith) t
 
   module _ (one : Chosen w b) (table : InTable b xs) (a : ℕ) (ha : a < 2 ^ w) where
     agree : (c : ℕ) → c < 2 ^ w → member (block w b xs a) c ≡ true → (i : ℕ) → touches xs i ≡ true → heldAt b c i ≡ heldAt b a i

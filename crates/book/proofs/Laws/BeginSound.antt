@@ -26,10 +26,10 @@ use Rattle.book.specs.declared.Open.{Open}
 use Rattle.book.specs.declared.Step.{Step}
 use Rattle.book.specs.declared.Book.{Book}
 use Rattle.book.specs.Book.{mostDistricts, mostItems, lastNumber, noRecord, noOpen, voidItem, recordAt, itemAt, openAt, recordOn, itemOn, isOpen, named, placeOf, freePlace, itemDepends}
-use Rattle.book.specs.Programs.{run, touches}
+use Rattle.book.specs.Programs.{run, touches, someStep}
 use Rattle.book.specs.Records.{beginRecord}
 use Rattle.book.specs.Items.{becomes}
-use Rattle.book.specs.Begin.{someStep, badStep, outside, heldAt, results, someBusy, tooMany, touchesDistrict, beginItem, newRow, begun}
+use Rattle.book.specs.Begin.{badStep, outside, heldAt, results, someBusy, tooMany, touchesDistrict, beginItem, newRow, begun}
 use Rattle.book.specs.Sound.{Sound}
 use Rattle.book.proofs.Laws.Rows.{length-rows, getD-rows, past-rows, each-row, getD-set}
 use Rattle.book.proofs.Laws.Programs.{run-reads, run-range}

@@ -10,8 +10,8 @@ use borrow.Author.Tests.{eq-eqb, eqb-true, not-false}
 use Rattle.conditions.proofs.Laws.Below.{or-left, or-right, or-second, by-cases}
 use Rattle.polyvalues.specs.Values.{inRange}
 use Rattle.book.specs.declared.Step.{Step}
-use Rattle.book.specs.Programs.{isAdd, isSet, isCopy, numbered, takes, declines, after, afterAll, declinedFrom, declined, run, names, touches}
-use Rattle.book.specs.Begin.{someStep, badStep}
+use Rattle.book.specs.Programs.{isAdd, isSet, isCopy, numbered, takes, declines, after, afterAll, declinedFrom, declined, run, names, touches, someStep}
+use Rattle.book.specs.Begin.{badStep}
 
 or-first : (x y : Bool) → x ≡ true → (x || y) ≡ true
 or-first x y e = rw e

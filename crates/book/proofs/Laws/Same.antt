@@ -26,7 +26,7 @@ use Rattle.book.specs.SoundTest.{sameCondition, samePolyvalue, sameItem,
 
 -- ---- equal rows
 
-same-rows : {A : Type 0} (f : A → A → Bool) → ((x y : A) → f x y ≡ true → x ≡ y) → (xs ys : List A) → sameRows f xs ys ≡ true → xs ≡ ys
+pub same-rows : {A : Type 0} (f : A → A → Bool) → ((x y : A) → f x y ≡ true → x ≡ y) → (xs ys : List A) → sameRows f xs ys ≡ true → xs ≡ ys
 same-rows f g [] [] e = refl
 same-rows f g [] (y ∷ ys) e = absurd (false≢true e)
 same-rows f g (x ∷ xs) [] e = absurd (false≢true e)

@@ -11,8 +11,8 @@ use Rattle.conditions.proofs.Laws.Below.{and-left, and-right, or-left, or-right
 use Rattle.book.specs.declared.Step.{Step}
 use Rattle.book.specs.declared.Book.{Book}
 use Rattle.book.specs.Book.{recordAt, itemAt, recordOn, itemOn}
-use Rattle.book.specs.Programs.{isCopy, numbered, names, touches}
-use Rattle.book.specs.Begin.{someStep, inTable, outside, someBusy, touchesDistrict}
+use Rattle.book.specs.Programs.{isCopy, numbered, names, touches, someStep}
+use Rattle.book.specs.Begin.{inTable, outside, someBusy, touchesDistrict}
 use Rattle.book.specs.Sound.{EachItem}
 
 in-table-below : (count : ℕ) (z : ℤ) → inTable count z ≡ true → numbered z < count

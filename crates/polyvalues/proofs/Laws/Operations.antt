@@ -44,9 +44,9 @@ each-changed : (f : Pair → Bool) (g : ℕ → ℕ) → ((p : Pair) → f (pair
 each-changed f g e [] = refl
 each-changed f g e (p ∷ ps) = ap₂ _&&_ (e p) (each-changed f g e ps)
 
-pub each-append : (f : Pair → Bool) (ps qs : List Pair) → each f ps ≡ true → each f qs ≡ true → each f (ps ++ qs) ≡ true
-each-append f [] qs d e = e
-each-append f (p ∷ ps) qs d e = ap₂ _&&_ (and-left (f p) _ d) (each-append f ps qs (and-right (f p) _ d) e)
+pub each-append : {A : Type 0} (f : A → Bool) (xs ys : List A) → each f xs ≡ true → each f ys ≡ true → each f (xs ++ ys) ≡ true
+each-append f [] ys d e = e
+each-append f (x ∷ xs) ys d e = ap₂ _&&_ (and-left (f x) _ d) (each-append f xs ys (and-right (f x) _ d) e)
 
 -- ---- reducing
 

@@ -9,14 +9,15 @@ use lib.IntN.{ℤ}
 use lib.ListN.{length, length-append}
 use Rattle.conditions.proofs.Laws.Below.{and-left, and-right, by-cases}
 use Rattle.polyvalues.specs.Values.{inRange, signed}
+use Rattle.polyvalues.proofs.Laws.Operations.{each-append}
 use Rattle.book.specs.declared.Opening.{Opening}
 use Rattle.book.specs.Answers.{accepted}
 use Rattle.book.specs.Book.{mostDistricts, mostItems, noBook}
 use Rattle.book.specs.Open.{goodItem, goodItems, goodOpening, opened}
 use Rattle.book.specs.Shaped.{Whole}
 use Rattle.book.proofs.Laws.OpenedShaped.{opened-whole}
-use Rattle.sheet.specs.Readers.{Read, wrong, right, andThen, repeat, byte, word, between, end}
-use Rattle.sheet.specs.Sections.{Sheet, code, districts, value, item, itemMore, items, events, sheet}
+use Rattle.sheet.specs.Readers.{Read, wrong, right, andThen, repeat, oneMore, byte, word, between, end}
+use Rattle.sheet.specs.Sections.{Sheet, code, districts, value, item, items, events, sheet}
 use Rattle.sheet.specs.Open.{tooLong, refused, openedSheet, openSheet}
 
 -- ---- what a reader that found nothing wrong has read
@@ -60,19 +61,15 @@ item-good count at l {x} e =
     let same : record { district = d .0; value = v .0 } ≡ x = cc (v .4) in
     ap (goodItem count) (sym same) ∙ ap₂ _&&_ (byte-passes (λ d. ltb d count) at l (d .3)) (value-good (d .1) (d .2) (v .3))
 
-good-more : (count : ℕ) (xs : List Opening) (x : Opening) → goodItems count xs ≡ true → goodItem count x ≡ true → goodItems count (xs ++ (x ∷ [])) ≡ true
-good-more count [] x e g = ap₂ _&&_ g refl
-good-more count (y ∷ xs) x e g = ap₂ _&&_ (and-left (goodItem count y) _ e) (good-more count xs x (and-right (goodItem count y) _ e) g)
-
-items-good : (count n : ℕ) (got : List Opening) (at : ℕ) (l : List ℕ) {xs : List Opening} {next : ℕ} {rest : List ℕ} → repeat n (itemMore count) got at l ≡ right xs next rest
+items-good : (count n : ℕ) (got : List Opening) (at : ℕ) (l : List ℕ) {xs : List Opening} {next : ℕ} {rest : List ℕ} → repeat n (oneMore (item count)) got at l ≡ right xs next rest
     → goodItems count got ≡ true → (length xs ≡ length got + n) × (goodItems count xs ≡ true)
-unfolding repeat itemMore
+unfolding repeat oneMore
 items-good count zero got at l {xs} e g = let same : got ≡ xs = cc in (ap length (sym same) ∙ omega arith, rw same at g)
 items-good count (suc n) got at l e g =
-    let more = first-read (itemMore count got at l) (repeat n (itemMore count)) e in
+    let more = first-read (oneMore (item count) got at l) (repeat n (oneMore (item count))) e in
     let one = first-read (item count at l) _ (more .3) in
     let same : got ++ (one .0 ∷ []) ≡ more .0 = cc (one .4) in
-    let rest = items-good count n (more .0) (more .1) (more .2) (more .4) (rw same at (good-more count got (one .0) g (item-good count at l (one .3)))) in
+    let rest = items-good count n (more .0) (more .1) (more .2) (more .4) (rw same at (each-append (goodItem count) got (one .0 ∷ []) g (ap₂ _&&_ (item-good count at l (one .3)) refl))) in
     (omega (arith, rest .0, ap length same, length-append got (one .0 ∷ [])), rest .1)
 
 -- ---- the sheet

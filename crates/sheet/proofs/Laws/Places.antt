@@ -8,13 +8,12 @@ use lib.ListN.{length, drop}
 use lib.Seq.{drop-drop}
 use Rattle.conditions.specs.declared.place.TransactionNumber.{TransactionNumber}
 use Rattle.polyvalues.specs.Values.{inRange, signed}
-use Rattle.book.specs.declared.Opening.{Opening}
 use Rattle.book.specs.Book.{mostDistricts, mostItems}
 use Rattle.sheet.specs.declared.events.Event.{Event}
 use Rattle.sheet.specs.declared.events.Event.the-variants.{Begin, Ready, GiveUp, Complete, Abort, Hear, Show}
-use Rattle.sheet.specs.Readers.{Read, wrong, right, andThen, repeat, byte, word, part, any, between}
+use Rattle.sheet.specs.Readers.{Read, wrong, right, andThen, repeat, oneMore, byte, word, part, any, between}
 use Rattle.sheet.specs.Events.{program, atDistrict, onNumber, ofItem, fields, event}
-use Rattle.sheet.specs.Sections.{code, districts, value, item, itemMore, items}
+use Rattle.sheet.specs.Sections.{code, districts, value, item, items}
 use Rattle.sheet.proofs.Laws.Open.{no-read, first-read}
 
 -- what a reader of the sheet s leaves, where nothing is wrong
@@ -118,10 +117,6 @@ module _ (s : List ℕ) where
   unfolding item
   leaves-item count at = leaves-then _ (leaves-byte (λ d. ltb d count) at) (λ d at. leaves-then _ (leaves-value at) (λ v at. leaves-read (record { district = d; value = v }) at))
 
-  leaves-item-more : (count : ℕ) (xs : List Opening) (at : ℕ) → LeavesRest s (itemMore count xs at (drop at s))
-  unfolding itemMore
-  leaves-item-more count xs at = leaves-then _ (leaves-item count at) (λ x at. leaves-read (xs ++ (x ∷ [])) at)
-
   pub leaves-items : (count at : ℕ) → LeavesRest s (items count at (drop at s))
-  unfolding items
-  leaves-items count at = leaves-then _ (leaves-byte (between 1 mostItems) at) (λ n at. leaves-repeat (itemMore count) (leaves-item-more count) n [] at)
+  unfolding items oneMore
+  leaves-items count at = leaves-then _ (leaves-byte (between 1 mostItems) at) (λ n at. leaves-repeat (oneMore (item count)) (λ xs at. leaves-then _ (leaves-item count at) (λ x at. leaves-read (xs ++ (x ∷ [])) at)) n [] at)

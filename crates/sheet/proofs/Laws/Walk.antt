@@ -10,8 +10,8 @@ use Rattle.book.specs.declared.Book.{Book}
 use Rattle.book.specs.Answers.{accepted}
 use Rattle.sheet.specs.declared.events.Event.{Event}
 use Rattle.sheet.specs.declared.events.EventAt.the-variants.{Read as Found}
-use Rattle.sheet.specs.Readers.{Read, wrong, right, repeat, word, any}
-use Rattle.sheet.specs.Events.{event, oneMore, answered, eventAt}
+use Rattle.sheet.specs.Readers.{Read, wrong, right, repeat, oneMore, word, any}
+use Rattle.sheet.specs.Events.{event, answered, eventAt}
 use Rattle.sheet.specs.Sections.{Events, Sheet, districts, items, events, sheet}
 use Rattle.sheet.specs.Open.{tooLong, refused, openedSheet, openSheet}
 use Rattle.sheet.specs.Lines.{refusalLine, endLine}
@@ -30,12 +30,12 @@ module _ (s : List ℕ) where
   event-found at q = ap answered q
 
   -- n events were read after those that were got
-  more-found : (n : ℕ) (got : List Event) (at : ℕ) {es : List Event} {next : ℕ} {rest : List ℕ} → repeat n oneMore got at (drop at s) ≡ right es next rest
+  more-found : (n : ℕ) (got : List Event) (at : ℕ) {es : List Event} {next : ℕ} {rest : List ℕ} → repeat n (oneMore event) got at (drop at s) ≡ right es next rest
       → (more : List Event) × (es ≡ got ++ more) × (length more ≡ n) × Stand s at more
   unfolding repeat oneMore
   more-found zero got at {es} e = let same : got ≡ es = cc in ([], sym same ∙ sym (append-nil got), refl, tt)
   more-found (suc n) got at e =
-      let one = first-read (oneMore got at (drop at s)) (repeat n oneMore) e in
+      let one = first-read (oneMore event got at (drop at s)) (repeat n (oneMore event)) e in
       let read = first-read (event at (drop at s)) _ (one .3) in
       let same : got ++ (read .0 ∷ []) ≡ one .0 = cc (read .4) in
       let behind : read .1 ≡ one .1 = cc (read .4) in
@@ -53,8 +53,8 @@ module _ (s : List ℕ) where
   events-found at {x} e =
       let count = first-read (word any at (drop at s)) _ e in
       let from : count .2 ≡ drop (count .1) s = leaves-word s any at .is (count .3) in
-      let each = first-read (repeat (count .0) oneMore [] (count .1) (count .2)) _ (count .4) in
-      let found = more-found (count .0) [] (count .1) (ap (repeat (count .0) oneMore [] (count .1)) (sym from) ∙ each .3) in
+      let each = first-read (repeat (count .0) (oneMore event) [] (count .1) (count .2)) _ (count .4) in
+      let found = more-found (count .0) [] (count .1) (ap (repeat (count .0) (oneMore event) [] (count .1)) (sym from) ∙ each .3) in
       let is : record { count = count .0; first = count .1; each = found .0 } ≡ x = ap (λ (es : List Event). record { count = count .0; first = count .1; each = es }) (sym (found .1)) ∙ cc (each .4) in
       rw (sym is) (record { many = found .2; found = found .3 })
 

@@ -3,8 +3,8 @@ use borrow.Author.Needs.{needs}
 use mathlib.Core.Path.{sym, ap, _∙_}
 use mathlib.Core.List.{List}
 use Rattle.book.specs.declared.Step.{Step}
-use Rattle.book.specs.Programs.{steps}
-use Rattle.book.specs.Begin.{someStep, badStep, badProgram}
+use Rattle.book.specs.Programs.{steps, someStep}
+use Rattle.book.specs.Begin.{badStep, badProgram}
 use Rattle.book.specs.States.{stepsOf}
 use Rattle.book.proofs.Reading.{few-steps, steps-read}
 use Rattle.book.proofs.program.bad_program.Statement.{statement}

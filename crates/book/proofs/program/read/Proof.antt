@@ -1,15 +1,16 @@
 -- The loop's invariant: the first i steps are read.
-use mathlib.Core.Path.{_≡_, refl, sym, ap, _∙_}
-use Prim.Native.Nat.{_≤_, _<_, _-_}
+use mathlib.Core.Path.{_≡_, refl, sym}
+use Prim.Native.Nat.{_≤_, _-_}
 use native.Mathlib.Numerals.{add-one}
 use native.Mathlib.Omega.{arith}
-use lib.ListN.{length, set}
-use mathlib.Core.List.{List}
 use borrow.Author.Needs.{needs}
 use Rattle.book.specs.declared.Step.{Step}
 use Rattle.book.specs.Programs.{steps}
+use Rattle.book.specs.Begin.{mostSteps}
+use Rattle.book.specs.States.{noStep}
 use Rattle.book.proofs.Laws.Steps.{length-steps}
-use Rattle.book.proofs.Reading.{readUpto, read-more, read-all}
+use Rattle.book.proofs.Filling.{filled-more}
+use Rattle.book.proofs.Reading.{readUpto, read-all}
 use Rattle.book.proofs.program.read.Statement.{statement}
 use Rattle.book.proofs.program.read.Tie as tie
 
@@ -40,11 +41,8 @@ loop-less c = omega arith
 loop-again : tie.Need-loop-again Inv-loop μ-loop
 loop-again c =
     let at-loop = c .before .before .loop in
-    let xs = steps (c .before .before .before .before .args .bytes .now) in
-    let h : at-loop .i < length xs = omega (arith, length-steps (c .before .before .before .before .args .bytes .now)) in (
-      omega arith,
-      ap (λ (l : List Step). set l (at-loop .i) (c .step-at .result)) (at-loop .inv .1) ∙ ap (set (readUpto (at-loop .i) xs) (at-loop .i)) (c .step-at .ensures) ∙ rw add-one (read-more xs (at-loop .i) h (c .before .before .before .before .pre)),
-    )
+    let count = length-steps (c .before .before .before .before .args .bytes .now) in
+    (omega arith, rw add-one (filled-more (λ (x : Step). x) noStep mostSteps _ (at-loop .i) noStep (omega (arith, count)) (omega (arith, count, c .before .before .before .before .pre)) (at-loop .inv .1) (c .step-at .ensures)))
 
 returns : tie.Need-returns Inv-loop μ-loop
 returns c =

@@ -79,49 +79,49 @@ same-length c = search needs
 
 returns-2 : tie.Need-returns-2
 unfolding eventResult
-returns-2 c = was-played places (c .before .before .before .before .before .before .before .before .before .before .before .before .args .book) (c .before .before .before .before .before .before .before .before .before .before .before .before .args .sheet .now) (c .before .before .before .before .before .before .before .before .before .before .before .before .args .event) (c .before .before .before .before .before .before .before .before .before .before .before .before .args .position) (c .before .before .before .before .before .before .before .before .before .before .before .before .args .buf .now) (c .before .before .before .before .before .before .before .before .before .if1 .left) (c .before .before .begun .ensures) (ap ofBegun (c .before .before .before .before .begin .ensures ∙ ap (begin places (c .before .before .before .before .before .before .before .before .before .before .before .before .args .book)) (c .before .before .before .before .before .between .ensures)) ∙ sym (ap (eventResult places (c .before .before .before .before .before .before .before .before .before .before .before .before .args .book) (c .before .before .before .before .before .before .before .before .before .before .before .before .args .sheet .now)) (c .before .before .before .before .before .before .before .event .given .1)))
+returns-2 c = was-played _ _ _ _ _ _ (c .before .before .before .before .before .before .before .before .before .if1 .left) (c .before .before .begun .ensures) (ap ofBegun (c .before .before .before .before .begin .ensures ∙ ap (begin _ _) (c .before .before .before .before .before .between .ensures)) ∙ sym (ap (eventResult _ _ _) (c .before .before .before .before .before .before .before .event .given .1)))
 
 same-length-2 : tie.Need-same-length-2
 same-length-2 c = search needs
 
 returns-3 : tie.Need-returns-3
 unfolding eventResult
-returns-3 c = was-played places (c .before .before .before .before .before .before .before .before .before .before .before .args .book) (c .before .before .before .before .before .before .before .before .before .before .before .args .sheet .now) (c .before .before .before .before .before .before .before .before .before .before .before .args .event) (c .before .before .before .before .before .before .before .before .before .before .before .args .position) (c .before .before .before .before .before .before .before .before .before .before .before .args .buf .now) (c .before .before .before .before .before .before .before .before .if1 .left) (c .before .before .done .ensures) (ap ofDone (c .before .before .before .before .ready .ensures) ∙ sym (ap (eventResult places (c .before .before .before .before .before .before .before .before .before .before .before .args .book) (c .before .before .before .before .before .before .before .before .before .before .before .args .sheet .now)) (c .before .before .before .before .before .before .event2 .given .1)))
+returns-3 c = was-played _ _ _ _ _ _ (c .before .before .before .before .before .before .before .before .if1 .left) (c .before .before .done .ensures) (ap ofDone (c .before .before .before .before .ready .ensures) ∙ sym (ap (eventResult _ _ _) (c .before .before .before .before .before .before .event2 .given .1)))
 
 same-length-3 : tie.Need-same-length-3
 same-length-3 c = search needs
 
 returns-4 : tie.Need-returns-4
 unfolding eventResult
-returns-4 c = was-played places (c .before .before .before .before .before .before .before .before .before .before .before .args .book) (c .before .before .before .before .before .before .before .before .before .before .before .args .sheet .now) (c .before .before .before .before .before .before .before .before .before .before .before .args .event) (c .before .before .before .before .before .before .before .before .before .before .before .args .position) (c .before .before .before .before .before .before .before .before .before .before .before .args .buf .now) (c .before .before .before .before .before .before .before .before .if1 .left) (c .before .before .done2 .ensures) (ap ofDone (c .before .before .before .before .give-up .ensures) ∙ sym (ap (eventResult places (c .before .before .before .before .before .before .before .before .before .before .before .args .book) (c .before .before .before .before .before .before .before .before .before .before .before .args .sheet .now)) (c .before .before .before .before .before .before .event3 .given .1)))
+returns-4 c = was-played _ _ _ _ _ _ (c .before .before .before .before .before .before .before .before .if1 .left) (c .before .before .done2 .ensures) (ap ofDone (c .before .before .before .before .give-up .ensures) ∙ sym (ap (eventResult _ _ _) (c .before .before .before .before .before .before .event3 .given .1)))
 
 same-length-4 : tie.Need-same-length-4
 same-length-4 c = search needs
 
 returns-5 : tie.Need-returns-5
 unfolding eventResult
-returns-5 c = was-played places (c .before .before .before .before .before .before .before .before .before .before .before .args .book) (c .before .before .before .before .before .before .before .before .before .before .before .args .sheet .now) (c .before .before .before .before .before .before .before .before .before .before .before .args .event) (c .before .before .before .before .before .before .before .before .before .before .before .args .position) (c .before .before .before .before .before .before .before .before .before .before .before .args .buf .now) (c .before .before .before .before .before .before .before .before .if1 .left) (c .before .before .done3 .ensures) (ap ofDone (c .before .before .before .before .complete .ensures) ∙ sym (ap (eventResult places (c .before .before .before .before .before .before .before .before .before .before .before .args .book) (c .before .before .before .before .before .before .before .before .before .before .before .args .sheet .now)) (c .before .before .before .before .before .before .event4 .given .1)))
+returns-5 c = was-played _ _ _ _ _ _ (c .before .before .before .before .before .before .before .before .if1 .left) (c .before .before .done3 .ensures) (ap ofDone (c .before .before .before .before .complete .ensures) ∙ sym (ap (eventResult _ _ _) (c .before .before .before .before .before .before .event4 .given .1)))
 
 same-length-5 : tie.Need-same-length-5
 same-length-5 c = search needs
 
 returns-6 : tie.Need-returns-6
 unfolding eventResult
-returns-6 c = was-played places (c .before .before .before .before .before .before .before .before .before .before .before .args .book) (c .before .before .before .before .before .before .before .before .before .before .before .args .sheet .now) (c .before .before .before .before .before .before .before .before .before .before .before .args .event) (c .before .before .before .before .before .before .before .before .before .before .before .args .position) (c .before .before .before .before .before .before .before .before .before .before .before .args .buf .now) (c .before .before .before .before .before .before .before .before .if1 .left) (c .before .before .done4 .ensures) (ap ofDone (c .before .before .before .before .abort .ensures) ∙ sym (ap (eventResult places (c .before .before .before .before .before .before .before .before .before .before .before .args .book) (c .before .before .before .before .before .before .before .before .before .before .before .args .sheet .now)) (c .before .before .before .before .before .before .event5 .given .1)))
+returns-6 c = was-played _ _ _ _ _ _ (c .before .before .before .before .before .before .before .before .if1 .left) (c .before .before .done4 .ensures) (ap ofDone (c .before .before .before .before .abort .ensures) ∙ sym (ap (eventResult _ _ _) (c .before .before .before .before .before .before .event5 .given .1)))
 
 same-length-6 : tie.Need-same-length-6
 same-length-6 c = search needs
 
 returns-7 : tie.Need-returns-7
 unfolding eventResult
-returns-7 c = was-played places (c .before .before .before .before .before .before .before .before .before .before .before .args .book) (c .before .before .before .before .before .before .before .before .before .before .before .args .sheet .now) (c .before .before .before .before .before .before .before .before .before .before .before .args .event) (c .before .before .before .before .before .before .before .before .before .before .before .args .position) (c .before .before .before .before .before .before .before .before .before .before .before .args .buf .now) (c .before .before .before .before .before .before .before .before .if1 .left) (c .before .before .done5 .ensures) (ap ofDone (c .before .before .before .before .hear .ensures) ∙ sym (ap (eventResult places (c .before .before .before .before .before .before .before .before .before .before .before .args .book) (c .before .before .before .before .before .before .before .before .before .before .before .args .sheet .now)) (c .before .before .before .before .before .before .event6 .given .1)))
+returns-7 c = was-played _ _ _ _ _ _ (c .before .before .before .before .before .before .before .before .if1 .left) (c .before .before .done5 .ensures) (ap ofDone (c .before .before .before .before .hear .ensures) ∙ sym (ap (eventResult _ _ _) (c .before .before .before .before .before .before .event6 .given .1)))
 
 same-length-7 : tie.Need-same-length-7
 same-length-7 c = search needs
 
 returns-8 : tie.Need-returns-8
 unfolding eventResult
-returns-8 c = was-played places (c .before .before .before .before .before .before .before .before .before .before .args .book) (c .before .before .before .before .before .before .before .before .before .before .args .sheet .now) (c .before .before .before .before .before .before .before .before .before .before .args .event) (c .before .before .before .before .before .before .before .before .before .before .args .position) (c .before .before .before .before .before .before .before .before .before .before .args .buf .now) (c .before .before .before .before .before .before .before .if1 .left) (c .before .before .shown .ensures) (sym (ap (eventResult places (c .before .before .before .before .before .before .before .before .before .before .args .book) (c .before .before .before .before .before .before .before .before .before .before .args .sheet .now)) (c .before .before .before .before .before .event7 .given .1)))
+returns-8 c = was-played _ _ _ _ _ _ (c .before .before .before .before .before .before .before .if1 .left) (c .before .before .shown .ensures) (sym (ap (eventResult _ _ _) (c .before .before .before .before .before .event7 .given .1)))
 
 pub play-spec : {M : Type 1} → statement M
 play-spec =

@@ -8,10 +8,10 @@ use lib.ListN.{replicate}
 use Rattle.conditions.specs.Places.{places}
 use Rattle.book.specs.declared.Item.{Item}
 use Rattle.book.specs.Book.{mostItems, noItem}
-use Rattle.book.specs.Open.{openedItem}
+use Rattle.book.specs.Open.{noOpening, openedItem}
 use Rattle.book.specs.Openings.{openingsOf}
 use Rattle.book.proofs.Filling.{filledUpto, filled-more}
-use Rattle.book.proofs.Making.{Held, items-long, noOpening}
+use Rattle.book.proofs.Making.{Held, items-long}
 use Rattle.book.proofs.maker.Openings.rows.Statement.{statement}
 use Rattle.book.proofs.maker.Openings.rows.Tie as tie
 

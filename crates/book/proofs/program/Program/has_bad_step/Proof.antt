@@ -5,7 +5,8 @@ use native.Mathlib.Numerals.{add-one}
 use native.Mathlib.Omega.{arith}
 use lib.ListN.{drop, drop-of-length-le}
 use borrow.Author.Needs.{needs}
-use Rattle.book.specs.Begin.{someStep, badStep}
+use Rattle.book.specs.Programs.{someStep}
+use Rattle.book.specs.Begin.{badStep}
 use Rattle.book.specs.States.{stepsOf}
 use Rattle.book.proofs.Reading.{steps-more}
 use Rattle.book.proofs.program.Program.has_bad_step.Statement.{statement}

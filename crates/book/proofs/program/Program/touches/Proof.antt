@@ -1,15 +1,13 @@
 -- The loop's invariant: what is asked is asked of the steps from i on.
-use mathlib.Core.Path.{_≡_, sym, _∙_}
+use mathlib.Core.Path.{_≡_, refl, sym, _∙_}
 use Prim.Native.Nat.{_-_}
 use native.Mathlib.Numerals.{add-one}
 use native.Mathlib.Omega.{arith}
 use lib.ListN.{drop, drop-of-length-le}
 use borrow.Author.Needs.{needs}
 use Rattle.book.specs.declared.Step.{Step}
-use Rattle.book.specs.Programs.{names, touches}
-use Rattle.book.specs.Begin.{someStep}
+use Rattle.book.specs.Programs.{names, touches, someStep}
 use Rattle.book.specs.States.{stepsOf}
-use Rattle.book.proofs.Naming.{touches-some}
 use Rattle.book.proofs.Reading.{steps-more}
 use Rattle.book.proofs.program.Program.touches.Statement.{statement}
 use Rattle.book.proofs.program.Program.touches.Tie as tie
@@ -24,7 +22,8 @@ len-requires : tie.Need-len-requires Inv-loop μ-loop
 len-requires c κs = search needs
 
 loop-holds : tie.Need-loop-holds Inv-loop μ-loop
-loop-holds c = sym (touches-some (stepsOf (c .before .args .t1)) (c .before .args .item))
+unfolding touches
+loop-holds c = refl
 
 mul-x : tie.Need-mul-x Inv-loop μ-loop
 mul-x c = record { fits = omega (arith, c .before .before .len .ensures .1) }
