@@ -1,11 +1,10 @@
 -- An opened book: each item has its opening value under every assignment, no transaction is open, and there is no past. So the invariant holds from the start.
 use mathlib.Core.Path.{_≡_, refl, sym, _∙_, ap}
 use mathlib.Core.Bool.{true, false, false≢true}
-use mathlib.Core.List.{List, [], _∷_, _++_, map}
-use Prim.Native.Nat.{ℕ, zero, suc, _^_, _<_}
-use native.Mathlib.Omega.{arith}
+use mathlib.Core.List.{List, []}
+use Prim.Native.Nat.{ℕ, _^_, _<_}
 use lib.IntN.{ℤ}
-use lib.ListN.{length, getD, getD-replicate}
+use lib.ListN.{length, getD-replicate}
 use Rattle.polyvalues.specs.Pairs.{at, certain}
 use Rattle.polyvalues.specs.Polyvalues.{inUse, packed}
 use Rattle.polyvalues.proofs.Laws.Canon.{certain-canon}
@@ -13,6 +12,7 @@ use Rattle.book.specs.declared.Item.{Item}
 use Rattle.book.specs.declared.Opening.{Opening}
 use Rattle.book.specs.Book.{noOpen, itemAt, openAt, isOpen}
 use Rattle.book.specs.Open.{goodOpening, openedItem, openedBook, opened}
+use Rattle.book.proofs.Laws.Rows.{made-row}
 use Rattle.book.proofs.Laws.Values.{made-at}
 use Rattle.book.proofs.Laws.OpenedShaped.{opened-whole}
 use Rattle.demands.specs.Past.{ever, began, serial}
@@ -21,11 +21,6 @@ use Rattle.demands.proofs.Ledger.{Ledger}
 use Rattle.demands.proofs.Choosing.{chosen-one}
 use Rattle.demands.proofs.Invariant.{Inv}
 
-map-at : {A B : Type 0} (f : A → B) (xs : List A) (more : List B) (i : ℕ) (d : A) (e : B) → i < length xs → getD (map f xs ++ more) i e ≡ f (getD xs i d)
-map-at f [] more i d e h = absurd (omega arith)
-map-at f (x ∷ xs) more zero d e h = refl
-map-at f (x ∷ xs) more (suc i) d e h = map-at f xs more i d e (omega arith)
-
 module _ (w districts : ℕ) (xs : List Opening) (good : goodOpening districts xs ≡ true) where
   pub opened-count : opened w districts xs .count ≡ length xs
   unfolding opened openedBook
@@ -33,7 +28,7 @@ module _ (w districts : ℕ) (xs : List Opening) (good : goodOpening districts x
 
   item : (i : ℕ) → i < length xs → itemAt (opened w districts xs) i ≡ openedItem w (openingOf xs i)
   unfolding opened openedBook
-  item i h = rw good (map-at (openedItem w) xs _ i _ _ h)
+  item i h = rw good (made-row (openedItem w) xs _ _ _ i h)
 
   pub opened-district : (i : ℕ) → i < length xs → itemAt (opened w districts xs) i .district ≡ openingOf xs i .district
   unfolding openedItem

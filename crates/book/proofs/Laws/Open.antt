@@ -1,15 +1,14 @@
 -- The all-zero book is not sound; an opened book is.
 use mathlib.Core.Path.{_≡_, refl, ap, ap₂}
 use mathlib.Core.Bool.{true, false, _||_, false≢true}
-use mathlib.Core.List.{List, [], _∷_, _++_, map}
-use Prim.Native.Nat.{ℕ, zero, suc, _+_, _-_, _≤_, _<_}
+use mathlib.Core.List.{List, [], _∷_}
+use Prim.Native.Nat.{ℕ, zero, suc, _-_, _≤_, _<_}
 use native.Mathlib.Omega.{arith}
 use lib.Dec.{leb, ltb}
 use lib.IntN.{ℤ}
 use lib.ListN.{length, getD, replicate}
 use borrow.Author.Tests.{ltb-true, leb-true}
-use Rattle.conditions.proofs.Laws.Below.{by-cases, three, five}
-use Rattle.polyvalues.specs.Values.{inRange}
+use Rattle.conditions.proofs.Laws.Below.{and-left, and-right, by-cases, five}
 use Rattle.polyvalues.specs.Pairs.{depends, certain}
 use Rattle.polyvalues.specs.Polyvalues.{inUse, packed, sound as soundPolyvalue}
 use Rattle.polyvalues.proofs.Laws.Canon.{certain-canon}
@@ -22,7 +21,8 @@ use Rattle.book.specs.declared.Opening.{Opening}
 use Rattle.book.specs.Book.{mostDistricts, mostItems, noRecord, noItem, noOpen, noBook, voidItem, recordAt, itemAt, openAt, recordOn, itemOn, isOpen, itemDepends}
 use Rattle.book.specs.Sound.{Sound}
 use Rattle.book.specs.SoundTest.{sound}
-use Rattle.book.specs.Open.{goodItems, goodOpening, openedItem, openedBook, opened}
+use Rattle.book.specs.Open.{noOpening, goodItem, goodItems, goodOpening, openedItem, openedBook, opened}
+use Rattle.book.proofs.Laws.Rows.{made-row, padded-row}
 use Rattle.book.proofs.Laws.Sound.{test-sound}
 use Rattle.book.proofs.Laws.But.{idle-district, but-sound}
 use Rattle.book.proofs.Laws.Settling.{idle-row}
@@ -43,24 +43,19 @@ record Fresh (w districts : ℕ) (x : Item) : Type 0 where
   same : x .pending ≡ x .held
   free : (q : ℕ) → itemDepends w x q ≡ false
 
-fresh : (w districts : ℕ) (x : Opening) → x .district < districts → inRange (x .value) ≡ true → Fresh w districts (openedItem w x)
+fresh : (w districts : ℕ) (x : Opening) → goodItem districts x ≡ true → Fresh w districts (openedItem w x)
 unfolding openedItem itemDepends
-fresh w districts x h e = record {
-  belongs = h;
-  held = packed-sound w (certain w (x .value)) (certain-well-formed w (x .value) e);
+fresh w districts x e = record {
+  belongs = ltb-true (x .district) districts (and-left (ltb (x .district) districts) _ e);
+  held = packed-sound w (certain w (x .value)) (certain-well-formed w (x .value) (and-right (ltb (x .district) districts) _ e));
   same = refl;
   free = λ q. ap₂ _||_ (certain-free w (x .value) q) (certain-free w (x .value) q);
 }
 
-fresh-at : (w districts : ℕ) (xs : List Opening) (past : List Item) → goodItems districts xs ≡ true → (i : ℕ) → i < length xs
-    → Fresh w districts (getD (map (openedItem w) xs ++ past) i voidItem)
-fresh-at w districts [] past e i h = absurd (omega arith)
-fresh-at w districts (x ∷ xs) past e zero h =
-    let t = three (ltb (x .district) districts) (inRange (x .value)) (goodItems districts xs) e in
-    fresh w districts x (ltb-true (x .district) districts (t .0)) (t .1)
-fresh-at w districts (x ∷ xs) past e (suc i) h =
-    let t = three (ltb (x .district) districts) (inRange (x .value)) (goodItems districts xs) e in
-    fresh-at w districts xs past (t .2) i (omega arith)
+good-at : (districts : ℕ) (xs : List Opening) → goodItems districts xs ≡ true → (i : ℕ) → i < length xs → goodItem districts (getD xs i noOpening) ≡ true
+good-at districts [] e i h = absurd (omega arith)
+good-at districts (x ∷ xs) e zero h = and-left (goodItem districts x) _ e
+good-at districts (x ∷ xs) e (suc i) h = good-at districts xs (and-right (goodItem districts x) _ e) i (omega arith)
 
 -- ---- rows of zeros
 
@@ -68,13 +63,6 @@ zeros : {A : Type 0} (n i : ℕ) (x : A) → getD (replicate n x) i x ≡ x
 zeros zero i x = refl
 zeros (suc n) zero x = refl
 zeros (suc n) (suc i) x = zeros n i x
-
-past-at : (w : ℕ) (xs : List Opening) (n i : ℕ) → length xs ≤ i → i < length xs + n → getD (map (openedItem w) xs ++ replicate n noItem) i voidItem ≡ noItem
-past-at w [] zero i l h = absurd (omega arith)
-past-at w [] (suc n) zero l h = refl
-past-at w [] (suc n) (suc i) l h = past-at w [] n i (omega arith) (omega arith)
-past-at w (x ∷ xs) n zero l h = absurd (omega arith)
-past-at w (x ∷ xs) n (suc i) l h = past-at w xs n i (omega arith) (omega arith)
 
 -- ---- the book
 
@@ -98,7 +86,7 @@ opened-sound w districts xs e = rw e book
     opens q = zeros w q noOpen
 
     items : (i : ℕ) → i < length xs → Fresh w districts (itemAt b i)
-    items i h = fresh-at w districts xs (replicate (mostItems - length xs) noItem) (t .4) i h
+    items i h = rw (made-row (openedItem w) xs _ noOpening voidItem i h) (fresh w districts (getD xs i noOpening) (good-at districts xs (t .4) i h))
 
     shut : {P : Type 0} (q : ℕ) → isOpen (openAt b q) ≡ true → P
     shut q h = absurd (false≢true (rw (opens q) at h))
@@ -118,7 +106,7 @@ opened-sound w districts xs e = rw e book
       opens = λ q h k. shut q k;
       differ = λ q h k. shut q k;
       pastDistricts = λ d h k. records d;
-      pastItems = λ i h k. past-at w xs (mostItems - length xs) i k (omega arith);
+      pastItems = λ i h k. padded-row (openedItem w) xs (mostItems - length xs) noItem voidItem i k (omega arith);
       free = λ q h k. opens q;
       freeUnused = λ q h k i l. items i l .free q;
     }) (λ q h k. shut q k)

@@ -1,12 +1,12 @@
 -- The first n rows changed, row by row: what a loop has done before row n, and what each row is afterwards.
 use mathlib.Core.Path.{_≡_, refl, sym, _∙_, ap, ap₂}
 use mathlib.Core.Bool.{cond}
-use mathlib.Core.List.{List, [], _∷_}
-use Prim.Native.Nat.{ℕ, zero, suc, _+_, _≤_, _<_}
+use mathlib.Core.List.{List, [], _∷_, _++_, map}
+use Prim.Native.Nat.{ℕ, zero, suc, _+_, _-_, _≤_, _<_}
 use native.Mathlib.Omega.{arith}
 use lib.Dec.{eqb, ltb}
-use lib.ListN.{length, getD, set}
-use lib.Seq.{getD-set-same, getD-set-other}
+use lib.ListN.{length, getD, set, replicate, length-map, getD-replicate}
+use lib.Seq.{getD-append-add, getD-set-same, getD-set-other}
 use borrow.Author.Tests.{eqb-true, eqb-false, ltb-true, ltb-false}
 use Rattle.conditions.proofs.Laws.Below.{by-cases}
 use Rattle.book.specs.Rows.{rowsFrom, rows}
@@ -96,6 +96,17 @@ module _ {A : Type 0} (f : ℕ → A → A) (z : A) where
   -- one that changes nothing, of a table where a row is set, changes only that row
   pub rows-set : (n : ℕ) (xs : List A) (i : ℕ) (y : A) → i < n → ((j : ℕ) → j < n → f j (getD xs j z) ≡ getD xs j z) → rows f n (set xs i y) ≡ set xs i (f i y)
   rows-set n xs i y h e = set-else 0 n xs i y h (λ j l m. here j (getD xs j z) ∙ e j l) ∙ ap (set xs i) (here i y)
+
+-- a row of a table that is made of a list, and then padded
+pub made-row : {A B : Type 0} (f : A → B) (xs : List A) (past : List B) (x : A) (y : B) (i : ℕ) → i < length xs → getD (map f xs ++ past) i y ≡ f (getD xs i x)
+made-row f [] past x y i h = absurd (omega arith)
+made-row f (a ∷ xs) past x y zero h = refl
+made-row f (a ∷ xs) past x y (suc i) h = made-row f xs past x y i (omega arith)
+
+pub padded-row : {A B : Type 0} (f : A → B) (xs : List A) (n : ℕ) (z y : B) (i : ℕ) → length xs ≤ i → i < length xs + n → getD (map f xs ++ replicate n z) i y ≡ z
+padded-row f xs n z y i l h =
+    let e : i ≡ length (map f xs) + (i - length xs) = omega (arith, length-map xs f) in
+    ap (λ (m : ℕ). getD (map f xs ++ replicate n z) m y) e ∙ getD-append-add (map f xs) (replicate n z) (i - length xs) y ∙ getD-replicate n (i - length xs) z y (omega arith)
 
 -- a row after one row is set
 pub getD-set : {A : Type 0} (xs : List A) (i : ℕ) (x z : A) (j : ℕ) → i < length xs → getD (set xs i x) j z ≡ cond (eqb j i) x (getD xs j z)
