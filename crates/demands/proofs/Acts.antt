@@ -10,16 +10,15 @@ use Rattle.conditions.specs.declared.place.TransactionNumber.{TransactionNumber
 use Rattle.book.specs.declared.Answer.{Answer}
 use Rattle.book.specs.declared.Book.{Book}
 use Rattle.book.specs.declared.Open.{Open}
-use Rattle.book.specs.Book.{noOpen, recordAt, itemAt, openAt, isOpen, placeOf, someDepends, someOn, openOf}
+use Rattle.book.specs.Book.{recordAt, itemAt, openAt, isOpen, placeOf, someDepends, someOn, openOf}
 use Rattle.book.specs.Answers.{accepted}
 use Rattle.book.specs.Transactions.{done}
 use Rattle.book.specs.Forget.{decided, needed, kept, remembered, forget}
 use Rattle.book.specs.Sound.{Sound}
-use Rattle.book.proofs.Laws.Rows.{getD-rows}
 use Rattle.book.specs.Shaped.{Whole}
 use Rattle.book.proofs.Laws.Sound.{place-named}
 use Rattle.book.proofs.Laws.But.{place-open}
-use Rattle.book.proofs.Laws.Forgetting.{forget-open, forget-is-open}
+use Rattle.book.proofs.Laws.Forgetting.{forget-row, forget-open, forget-is-open}
 use Rattle.book.proofs.Laws.Calls.{WholeBut, forgotten, done-accepted}
 use Rattle.demands.specs.Calls.{Call}
 use Rattle.demands.specs.Past.{asksBegin}
@@ -48,7 +47,7 @@ left w e c same f = record {
   records = λ d. ap (λ (b : Book). recordAt b d) same;
   opens = λ q h k. let k′ : isOpen (openAt (forget w e) q) ≡ true = rw same at k in ap (λ (b : Book). openAt b q) same ∙ forget-open w e (f .but) (f .shaped) q h k′;
   stays = λ q h k. rw same (forget-is-open w e (f .but) (f .shaped) q h k);
-  rows = λ q h. rw same (getD-rows (remembered w e) noOpen w (e .«open») q h (omega (arith, f .shaped .places)));
+  rows = λ q h. rw same (forget-row w e (f .shaped) q h);
 }
 
 -- of a call that returns so

@@ -8,7 +8,6 @@ use lib.Dec.{eqb}
 use lib.IntN.{ℤ}
 use borrow.Author.Tests.{eqb-true, eqb-false, eq-eqb, not-true}
 use Rattle.conditions.specs.Sets.{member}
-use Rattle.conditions.specs.Places.{withPlace}
 use Rattle.conditions.proofs.Laws.Below.{by-cases}
 use Rattle.conditions.proofs.Laws.Places.{place-same}
 use Rattle.polyvalues.specs.Pairs.{at}
@@ -30,7 +29,7 @@ use Rattle.demands.proofs.Events.{ready-keeps, give-up-values, hear-val
 use Rattle.book.proofs.Laws.Calls.{GivesUp, Hears, give-up-tests, hear-tests}
 use Rattle.demands.specs.Calls.{givesUp}
 use Rattle.demands.specs.Past.{Said, said, asksComplete, wasCompleted, wasAborted, Guess}
-use Rattle.demands.specs.Demands.{pendingAt, Says}
+use Rattle.demands.specs.Demands.{pendingAt, givenUpAt, setAt, Says}
 use Rattle.demands.proofs.Tables.{give-up-acts}
 use Rattle.demands.proofs.Items.{stays-on, ready-on, give-up-on, busy-item, hear-on}
 use Rattle.demands.proofs.Ledger.{ever-now, Ledger, row-marks}
@@ -98,7 +97,7 @@ module _ (w : ℕ) (b : Book) (t : Shaped w b) (g : ℕ → Bool) (a : ℕ) (s :
 
       -- what an item of the district becomes is what counted
       settled : there d x ≡ true
-          → cond (computingOn n (recordAt b d)) (heldAt b a i) (cond (member a (placeOf w b n)) (pendingAt b a i) (heldAt b a i)) ≡ chosenAt b g a i
+          → givenUpAt w b n d a i ≡ chosenAt b g a i
       settled k = rw (busy-item w b t i h n d (facts .last) k) (by-cases (computingOn n (recordAt b d))
           (λ z. rw (z, aborts z))
           (λ z. rw (z, guessed n (facts .place))))
@@ -130,7 +129,7 @@ module _ (w : ℕ) (b : Book) (t : Shaped w b) (g : ℕ → Bool) (a : ℕ) (s :
           legal .aborted n (marks .aborted ∙ eq-eqb (o .decision) 2 two) ∙ sym k)
 
       -- so the assignment is already as it is set
-      set : withPlace w a (placeOf w b n) (outcome (openOf w b n)) ≡ a
+      set : setAt w b n a ≡ a
       set = place-same w a (placeOf w b n) (outcome (openOf w b n)) (s .assignment) (λ k. guessed n (hearing .place) ∙ kept)
 
       installed : there d x ≡ true → busyOn n (recordAt b d) ≡ true → cond (outcome (openOf w b n)) (pendingAt b a i) (heldAt b a i) ≡ chosenAt b g a i

@@ -15,19 +15,19 @@ use Rattle.book.specs.Programs.{steps, run, touches}
 use Rattle.book.specs.Records.{busyOn}
 use Rattle.book.specs.Items.{there, concerned}
 use Rattle.book.specs.Transactions.{done}
-use Rattle.book.specs.Begin.{heldAt, begun, begin}
+use Rattle.book.specs.Begin.{heldAt, beginAnswer, begun, begin}
 use Rattle.book.specs.Ready.{readyAnswer, readied, ready}
 use Rattle.book.specs.GiveUp.{giveUpAnswer, gaveUp, giveUp}
 use Rattle.book.specs.Decide.{completeAnswer, abortAnswer, decide, complete, abort}
 use Rattle.book.specs.Hear.{hearAnswer, heard, hear}
 use Rattle.book.specs.Shaped.{Shaped}
-use Rattle.book.proofs.Laws.Values.{valueUnder, forget-item, ready-item, decide-item, begin-held, begin-pending, give-up-held, give-up-pending, hear-held, hear-pending}
+use Rattle.book.proofs.Laws.Values.{valueUnder, forget-item, begin-held, begin-pending, give-up-held, give-up-pending, hear-held, hear-pending}
 use Rattle.book.proofs.Laws.Settling.{concerned-busy}
-use Rattle.book.proofs.Laws.Calls.{GivesUp, Hears, done-accepted, begin-accepted, begin-tests, give-up-tests, hear-tests}
+use Rattle.book.proofs.Laws.Calls.{GivesUp, Hears, done-accepted, begin-tests, give-up-tests, hear-tests}
 use Rattle.demands.specs.Demands.{pendingAt, Values, givenUpAt, heardAt}
 
 -- an accepted call gives the items of its event: forgetting changes none
-done-item : (w : ℕ) (a : Answer) (after before : Book) → accepted a ≡ true → (i : ℕ) → itemAt (done w a after before .book) i ≡ itemAt after i
+pub done-item : (w : ℕ) (a : Answer) (after before : Book) → accepted a ≡ true → (i : ℕ) → itemAt (done w a after before .book) i ≡ itemAt after i
 done-item w a after before e i = ap (λ (c : Book). itemAt c i) (done-accepted w a after before e) ∙ forget-item w after i
 
 -- an item that stays has its values
@@ -36,17 +36,17 @@ values-stay b c a i e f = record { held = ap (λ (x : Item). valueUnder (x .held
 
 -- "Ready. Computing to waiting.": no item changes
 pub ready-keeps : (w : ℕ) (b : Book) (n d : ℕ) → accepted (ready w b n d .answer) ≡ true → (i : ℕ) → itemAt (ready w b n d .book) i ≡ itemAt b i
-unfolding ready done
-ready-keeps w b n d e i = done-item w (readyAnswer w b n d) (readied w b n d) b e i ∙ ready-item w b n d i
+unfolding ready done readied
+ready-keeps w b n d = done-item w (readyAnswer w b n d) (readied w b n d) b
 
 -- "Decide complete or abort.": no item changes
 pub complete-keeps : (w : ℕ) (b : Book) (n : ℕ) → accepted (complete w b n .answer) ≡ true → (i : ℕ) → itemAt (complete w b n .book) i ≡ itemAt b i
-unfolding complete done
-complete-keeps w b n e i = done-item w (completeAnswer w b n) (decide w b n 1) b e i ∙ decide-item w b n 1 i
+unfolding complete done decide
+complete-keeps w b n = done-item w (completeAnswer w b n) (decide w b n 1) b
 
 pub abort-keeps : (w : ℕ) (b : Book) (n : ℕ) → accepted (abort w b n .answer) ≡ true → (i : ℕ) → itemAt (abort w b n .book) i ≡ itemAt b i
-unfolding abort done
-abort-keeps w b n e i = done-item w (abortAnswer w b n) (decide w b n 2) b e i ∙ decide-item w b n 2 i
+unfolding abort done decide
+abort-keeps w b n = done-item w (abortAnswer w b n) (decide w b n 2) b
 
 module _ (w : ℕ) (b : Book) (t : Shaped w b) (i : ℕ) (h : i < b .count) (a : ℕ) (l : a < 2 ^ w) where
   abbrev x : Item
@@ -54,9 +54,10 @@ module _ (w : ℕ) (b : Book) (t : Shaped w b) (i : ℕ) (h : i < b .count) (a :
 
   pub begin-values : (bytes : List ℕ) → accepted (begin w b bytes .answer) ≡ true
       → Values (begin w b bytes .book) a i (heldAt b a i) (cond (touches (steps bytes) i) (run (steps bytes) (heldAt b a) i) (pendingAt b a i))
+  unfolding begin done
   begin-values bytes e =
       let s = begin-tests w b bytes e .0 in
-      values-stay (begun w b (steps bytes)) _ a i (ap (λ (c : Book). itemAt c i) (begin-accepted w b bytes e) ∙ forget-item w (begun w b (steps bytes)) i) (record {
+      values-stay (begun w b (steps bytes)) _ a i (done-item w (beginAnswer w b bytes) (begun w b (steps bytes)) b e i) (record {
         held = rw (begin-held w b s t (steps bytes) i h);
         pending = begin-pending w b s t (steps bytes) i h a l;
       })

@@ -12,7 +12,8 @@ use Rattle.book.specs.declared.Open.{Open}
 use Rattle.book.specs.Answers.{accepted}
 use Rattle.book.specs.Book.{openAt, isOpen, placeOf, freePlace}
 use Rattle.book.specs.Transactions.{done}
-use Rattle.book.specs.Begin.{begin}
+use Rattle.book.specs.Programs.{steps}
+use Rattle.book.specs.Begin.{beginAnswer, begun, begin}
 use Rattle.book.specs.Ready.{readyAnswer, readied, ready}
 use Rattle.book.specs.GiveUp.{giveUpAnswer, gaveUp, giveUp}
 use Rattle.book.specs.Decide.{completeAnswer, abortAnswer, decide, complete, abort}
@@ -20,7 +21,7 @@ use Rattle.book.specs.Hear.{hearAnswer, heard, hear}
 use Rattle.book.specs.Shaped.{Shaped, Whole}
 use Rattle.book.proofs.Laws.BeginSound.{free-place}
 use Rattle.demands.proofs.Events.{complete-keeps, abort-keeps}
-use Rattle.book.proofs.Laws.Calls.{done-refused, begin-refused, begin-tests}
+use Rattle.book.proofs.Laws.Calls.{done-refused, begin-tests}
 use Rattle.demands.specs.Calls.{Call, beginsWith, readies, givesUp, completes, aborts, hears, shows, answerTo, bookAfter}
 use Rattle.demands.specs.Past.{Said, said, asksBegin, asksComplete, wasCompleted, wasGivenUp, began, Guess, runs, serial}
 use Rattle.demands.specs.Demands.{Says}
@@ -36,8 +37,8 @@ use Rattle.demands.proofs.Beginning.{begin-chosen}
 -- ---- "A refused call leaves the book .. as [it was] before it."
 
 pub refused-book : (w : ℕ) (b : Book) (c : Call) → accepted (answerTo w b c) ≡ false → bookAfter w b c ≡ b
-unfolding ready giveUp complete abort hear done
-refused-book w b (beginsWith bytes) e = begin-refused w b bytes e
+unfolding begin ready giveUp complete abort hear done
+refused-book w b (beginsWith bytes) e = done-refused w (beginAnswer w b bytes) (begun w b (steps bytes)) b e
 refused-book w b (readies n d) e = done-refused w (readyAnswer w b n d) (readied w b n d) b e
 refused-book w b (givesUp n d) e = done-refused w (giveUpAnswer w b n d) (gaveUp w b n d) b e
 refused-book w b (completes n) e = done-refused w (completeAnswer w b n) (decide w b n 1) b e

@@ -14,15 +14,15 @@ use Rattle.book.specs.Programs.{steps, touches}
 use Rattle.book.specs.Records.{computingOn, busyOn, hearRecord}
 use Rattle.book.specs.Items.{there, concerned, split, reduceItem}
 use Rattle.book.specs.Transactions.{done}
-use Rattle.book.specs.Begin.{touchesDistrict, beginItem, begun, begin}
+use Rattle.book.specs.Begin.{beginAnswer, touchesDistrict, beginItem, begun, begin}
 use Rattle.book.specs.Ready.{ready}
 use Rattle.book.specs.GiveUp.{giveUpAnswer, giveUpItem, gaveUp, giveUp}
 use Rattle.book.specs.Hear.{outcome, hearAnswer, hearItem, heard, hear}
 use Rattle.book.specs.Shaped.{Shaped}
-use Rattle.book.proofs.Laws.Values.{forget-item, begin-item, give-up-item, hear-item}
-use Rattle.demands.proofs.Events.{ready-keeps}
+use Rattle.book.proofs.Laws.Values.{begin-item, give-up-item, hear-item}
+use Rattle.demands.proofs.Events.{done-item, ready-keeps}
 use Rattle.book.proofs.Laws.But.{computing-on, busy-is, busy-on}
-use Rattle.book.proofs.Laws.Calls.{done-accepted, begin-accepted, begin-tests, ready-tests, give-up-tests, hear-tests}
+use Rattle.book.proofs.Laws.Calls.{begin-tests, ready-tests, give-up-tests, hear-tests}
 use Rattle.demands.proofs.Tables.{ready-record, give-up-record, hear-record, begin-record}
 
 -- an item stays on its transaction where it stays and no record changes: complete and abort
@@ -50,7 +50,7 @@ module _ (w : ℕ) (b : Book) (t : Shaped w b) (i : ℕ) (h : i < b .count) wher
   pub give-up-district : (n d : ℕ) → accepted (giveUp w b n d .answer) ≡ true → itemAt (giveUp w b n d .book) i .district ≡ itemAt b i .district
   unfolding giveUp done giveUpItem split
   give-up-district n d e =
-      rw (done-accepted w (giveUpAnswer w b n d) (gaveUp w b n d) b e, forget-item w (gaveUp w b n d) i, give-up-item w b (give-up-tests w b n d e .sound) t n d i h)
+      rw (done-item w (giveUpAnswer w b n d) (gaveUp w b n d) b e i, give-up-item w b (give-up-tests w b n d e .sound) t n d i h)
       (by-cases (concerned b n d x)
       (λ k. rw k (by-cases (computingOn n (recordAt b d)) (λ z. rw z) (λ z. rw z)))
       (λ k. rw k))
@@ -72,7 +72,7 @@ module _ (w : ℕ) (b : Book) (t : Shaped w b) (i : ℕ) (h : i < b .count) wher
   pub hear-district : (n d : ℕ) → accepted (hear w b n d .answer) ≡ true → itemAt (hear w b n d .book) i .district ≡ itemAt b i .district
   unfolding hear done hearItem reduceItem
   hear-district n d e =
-      rw (done-accepted w (hearAnswer w b n d) (heard w b n d) b e, forget-item w (heard w b n d) i, hear-item w b (hear-tests w b n d e .sound) t n d i h)
+      rw (done-item w (hearAnswer w b n d) (heard w b n d) b e i, hear-item w b (hear-tests w b n d e .sound) t n d i h)
       (by-cases (there d x)
       (λ k. rw k (by-cases (concerned b n d x) (λ z. rw z (by-cases (outcome (openOf w b n)) (λ y. rw y) (λ y. rw y))) (λ z. rw z)))
       (λ k. rw k))
@@ -87,9 +87,9 @@ module _ (w : ℕ) (b : Book) (t : Shaped w b) (i : ℕ) (h : i < b .count) wher
   -- ---- begin
 
   pub begin-district : (bytes : List ℕ) → accepted (begin w b bytes .answer) ≡ true → itemAt (begin w b bytes .book) i .district ≡ itemAt b i .district
-  unfolding beginItem
+  unfolding begin done beginItem
   begin-district bytes e =
-      rw (begin-accepted w b bytes e, forget-item w (begun w b (steps bytes)) i, begin-item w b (begin-tests w b bytes e .0) t (steps bytes) i h)
+      rw (done-item w (beginAnswer w b bytes) (begun w b (steps bytes)) b e i, begin-item w b (begin-tests w b bytes e .0) t (steps bytes) i h)
       (by-cases (touches (steps bytes) i) (λ k. rw k) (λ k. rw k))
 
   pub begin-on : (bytes : List ℕ) → (e : accepted (begin w b bytes .answer) ≡ true)

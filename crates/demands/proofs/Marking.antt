@@ -10,6 +10,7 @@ use borrow.Author.Tests.{eq-eqb, ne-eqb, eqb-true, not-false}
 use Rattle.conditions.specs.Sets.{member}
 use Rattle.conditions.proofs.Laws.Below.{and-left, by-cases}
 use Rattle.conditions.proofs.Laws.Sets.{member-none}
+use Rattle.conditions.proofs.Laws.Places.{member-place, member-set}
 use Rattle.book.specs.declared.Book.{Book}
 use Rattle.book.specs.declared.Open.{Open}
 use Rattle.book.specs.declared.Record.{Record}
@@ -24,7 +25,7 @@ use Rattle.book.specs.GiveUp.{marked, giveUp}
 use Rattle.book.specs.Decide.{withDecision, complete, abort}
 use Rattle.book.specs.Hear.{hear}
 use Rattle.book.specs.Shaped.{Shaped}
-use Rattle.book.proofs.Laws.Including.{including-own, member-including, including-either}
+use Rattle.book.proofs.Laws.Including.{including-either}
 use Rattle.book.proofs.Laws.But.{place-open, computing-on, busy-is}
 use Rattle.book.proofs.Laws.Calls.{GivesUp, ready-tests, give-up-tests, complete-tests, abort-tests}
 use Rattle.demands.specs.Calls.{Call, beginsWith, readies, givesUp, completes, aborts, hears, answerTo}
@@ -110,8 +111,8 @@ module _ (w : ℕ) (b : Book) (t : Shaped w b) (past : List Said) (l : Ledger w 
       completed = refl;
       aborted = refl;
       ready = λ f h. refl;
-      gives = λ z. (d, facts .district, including-own (o .gave) d (lt-of-lt-of-le (facts .district) (facts .sound .fewDistricts)));
-      gave = λ f h k. rw (member-including (o .gave) d f (lt-of-lt-of-le h (facts .sound .fewDistricts))) (by-cases (eqb f d) (λ z. rw z) (λ z. rw z k));
+      gives = λ z. (d, facts .district, member-set mostDistricts (o .gave) d true (lt-of-lt-of-le (facts .district) (facts .sound .fewDistricts)));
+      gave = λ f h k. rw (member-place mostDistricts (o .gave) d true f (lt-of-lt-of-le h (facts .sound .fewDistricts))) (by-cases (eqb f d) (λ z. rw z) (λ z. rw z k));
     }
 
     turnsLate : computingOn n (recordAt b d) ≡ false → Turns past (said w b (givesUp n d)) (b .districts) n o o

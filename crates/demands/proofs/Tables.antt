@@ -16,7 +16,7 @@ use Rattle.book.specs.Records.{computingOn, beginRecord, readyRecord, hearRecor
 use Rattle.book.specs.Forget.{kept, remembered}
 use Rattle.book.specs.Transactions.{done}
 use Rattle.book.specs.Sound.{Sound}
-use Rattle.book.specs.Begin.{grant, touchesDistrict, begun, begin}
+use Rattle.book.specs.Begin.{grant, beginAnswer, touchesDistrict, begun, begin}
 use Rattle.book.specs.Ready.{readyAnswer, reported, readied, ready}
 use Rattle.book.specs.GiveUp.{giveUpAnswer, marked, gaveUp, giveUp}
 use Rattle.book.specs.Decide.{completeAnswer, abortAnswer, withDecision, decide, complete, abort}
@@ -28,10 +28,10 @@ use Rattle.book.proofs.Laws.GiveUpSound.{give-up-records, give-up-opens}
 use Rattle.book.proofs.Laws.DecideSound.{decide-opens}
 use Rattle.book.proofs.Laws.HearSound.{hear-records}
 use Rattle.book.proofs.Laws.BeginSound.{Begins, begin-records, begin-opens, free-place}
-use Rattle.book.proofs.Laws.Calls.{Decides, begin-accepted, ready-tests, give-up-tests, complete-tests, abort-tests, hear-tests, begin-tests, ready-leaves, give-up-leaves, decide-leaves, hear-leaves, begin-leaves}
+use Rattle.book.proofs.Laws.Calls.{Decides, ready-tests, give-up-tests, complete-tests, abort-tests, hear-tests, begin-tests, ready-leaves, give-up-leaves, decide-leaves, hear-leaves, begin-leaves}
 use Rattle.demands.specs.Calls.{beginsWith}
 use Rattle.demands.specs.Demands.{openAfter}
-use Rattle.demands.proofs.Acts.{Left, left, done-left, Acts, acts}
+use Rattle.demands.proofs.Acts.{Left, done-left, Acts, acts}
 
 module _ (w : ℕ) (b : Book) (t : Shaped w b) where
   -- ---- ready
@@ -129,7 +129,8 @@ module _ (w : ℕ) (b : Book) (t : Shaped w b) where
     facts = begin-tests w b bytes e
 
     beginLeft : Left w (begun w b (steps bytes)) (begin w b bytes .book)
-    beginLeft = left w (begun w b (steps bytes)) _ (begin-accepted w b bytes e) (begin-leaves w b (steps bytes) t facts)
+    unfolding begin done
+    beginLeft = done-left w (beginAnswer w b bytes) (begun w b (steps bytes)) b e (begin-leaves w b (steps bytes) t facts)
 
     pub begin-after : Whole w (begin w b bytes .book)
     begin-after = beginLeft .whole

@@ -34,24 +34,16 @@ use Rattle.book.proofs.Laws.DecideSound.{decide-shaped, decide-but}
 use Rattle.book.proofs.Laws.HearSound.{hear-shaped, hear-but}
 use Rattle.book.proofs.Laws.BeginSound.{Begins, begin-shaped, begin-but}
 
--- ---- what a call returns
+-- ---- what a call returns, and so the book of a begin
 
 -- "Every refusal .. leaves the book .. unchanged"
 pub done-refused : (w : ℕ) (a : Answer) (after before : Book) → accepted a ≡ false → done w a after before .book ≡ before
 unfolding done
 done-refused w a after before e = rw e
 
-pub begin-refused : (w : ℕ) (b : Book) (bytes : List ℕ) → accepted (begin w b bytes .answer) ≡ false → begin w b bytes .book ≡ b
-unfolding begin
-begin-refused w b bytes e = rw e
-
 pub done-accepted : (w : ℕ) (a : Answer) (after before : Book) → accepted a ≡ true → done w a after before .book ≡ forget w after
 unfolding done
 done-accepted w a after before e = rw e
-
-pub begin-accepted : (w : ℕ) (b : Book) (bytes : List ℕ) → accepted (begin w b bytes .answer) ≡ true → begin w b bytes .book ≡ forget w (begun w b (steps bytes))
-unfolding begin
-begin-accepted w b bytes e = rw e
 
 -- what an event leaves, which forgetting ends
 pub record WholeBut (w : ℕ) (b : Book) : Type 0 where
@@ -214,7 +206,6 @@ pub begin-leaves : (w : ℕ) (b : Book) (xs : List Step) → Shaped w b → (Sou
 begin-leaves w b xs t f = record { but = begin-but w b (f .0) t xs (f .1); shaped = begin-shaped w b (f .0) t xs (f .1) }
 
 pub begin-whole : (w : ℕ) (b : Book) (bytes : List ℕ) → Whole w b → Whole w (begin w b bytes .book)
+unfolding begin done
 begin-whole w b bytes s =
-    by-cases (accepted (begin w b bytes .answer))
-    (λ e. rw (begin-accepted w b bytes e) (forgotten w _ (begin-leaves w b (steps bytes) (s .shaped) (begin-tests w b bytes e))))
-    (λ e. rw (begin-refused w b bytes e) s)
+    done-whole w (beginAnswer w b bytes) (begun w b (steps bytes)) b s (λ e. begin-leaves w b (steps bytes) (s .shaped) (begin-tests w b bytes e))

@@ -24,13 +24,17 @@ unfolding forget
 forget-shaped w b t =
     record { records = t .records; items = t .items; places = length-rows (remembered w b) noOpen w (b .«open») ∙ t .places; rows = t .rows }
 
+-- the places afterwards
+pub forget-row : (w : ℕ) (b : Book) → Shaped w b → (q : ℕ) → q < w → openAt (forget w b) q ≡ remembered w b q (openAt b q)
+unfolding forget
+forget-row w b t q h = getD-rows (remembered w b) noOpen w (b .«open») q h (omega (arith, t .places))
+
 module _ (w : ℕ) (b : Book) (s : SoundBut w b) (t : Shaped w b) where
   abbrev c : Book
   c = forget w b
 
   after : (q : ℕ) → q < w → openAt c q ≡ remembered w b q (openAt b q)
-  unfolding forget
-  after q h = getD-rows (remembered w b) noOpen w (b .«open») q h (omega (arith, t .places))
+  after = forget-row w b t
 
   -- a place is kept, or freed as nobody needs it
   data Fate (q : ℕ) : Type 0 where

@@ -8,17 +8,18 @@ use lib.Dec.{eqb}
 use lib.ListN.{length, length-set}
 use borrow.Author.Tests.{eqb-true, ne-eqb}
 use Rattle.conditions.proofs.Laws.Below.{by-cases}
+use Rattle.conditions.proofs.Laws.Places.{place-below}
 use Rattle.book.specs.declared.Record.{Record}
 use Rattle.book.specs.declared.Item.{Item}
 use Rattle.book.specs.declared.Open.{Open}
 use Rattle.book.specs.declared.Book.{Book}
-use Rattle.book.specs.Book.{mostItems, noRecord, noOpen, voidItem, recordAt, itemAt, openAt, recordOn, itemOn, isOpen, placeOf, itemDepends, openOf}
+use Rattle.book.specs.Book.{mostDistricts, mostItems, noRecord, noOpen, voidItem, recordAt, itemAt, openAt, recordOn, itemOn, isOpen, placeOf, itemDepends, openOf}
 use Rattle.book.specs.Records.{computingOn, busyOn}
 use Rattle.book.specs.Items.{there, concerned, drop, split}
 use Rattle.book.specs.GiveUp.{giveUpItem, marked, gaveUp}
 use Rattle.book.specs.Sound.{Sound}
 use Rattle.book.proofs.Laws.Rows.{length-rows, past-rows, each-row, getD-set}
-use Rattle.book.proofs.Laws.Including.{including-other, including-lt}
+use Rattle.book.proofs.Laws.Including.{including-other}
 use Rattle.book.specs.Shaped.{ShapedItem, Shaped}
 use Rattle.book.proofs.Laws.Values.{give-up-item}
 use Rattle.book.proofs.Laws.But.{DistrictRow, ItemRow, OpenRow, SoundBut, sound-but, idle-district, Seen, seen-same, seen-at, row-own, district-stays, item-stays, place-open, computing-on, busy-is}
@@ -75,7 +76,7 @@ module _ (w : ℕ) (b : Book) (sound : Sound w b) (t : Shaped w b) (n d : ℕ) (
   markedRow e = record {
     touched = old .touched;
     ready = old .ready;
-    gave = including-lt (b .districts) (o .gave) d (sound .fewDistricts) (old .gave) l;
+    gave = place-below mostDistricts (b .districts) (o .gave) d true (sound .fewDistricts) (old .gave) l;
     decisions = old .decisions;
     given = old .given;
     sets = λ f h. record {

@@ -1,21 +1,17 @@
--- A set of districts with one more district.
+-- A set of districts with one more district: what the laws of places do not say of it already.
 use mathlib.Core.Path.{_≡_, sym, _∙_}
 use mathlib.Core.Bool.{true, false, _||_, cond, or-true, or-false}
-use Prim.Native.Nat.{ℕ, _^_, _≤_, _<_}
+use Prim.Native.Nat.{ℕ, _<_}
 use lib.Dec.{eqb}
 use borrow.Author.Tests.{eqb-true, eqb-false, eq-eqb, ne-eqb}
 use Rattle.conditions.proofs.Laws.Below.{by-cases}
 use Rattle.conditions.specs.Sets.{member}
-use Rattle.conditions.proofs.Laws.Places.{place-below, member-place, member-set}
+use Rattle.conditions.proofs.Laws.Places.{member-place}
 use Rattle.book.specs.Book.{mostDistricts, including}
-
--- its districts
-pub member-including : (s d e : ℕ) → e < mostDistricts → member (including s d) e ≡ cond (eqb e d) true (member s e)
-member-including s d e h = member-place mostDistricts s d true e h
 
 -- those of s, or d
 pub including-either : (s d e : ℕ) → e < mostDistricts → member (including s d) e ≡ (member s e || eqb d e)
-including-either s d e h = member-including s d e h ∙ by-cases (eqb d e) here other
+including-either s d e h = member-place mostDistricts s d true e h ∙ by-cases (eqb d e) here other
   where
     here : eqb d e ≡ true → cond (eqb e d) true (member s e) ≡ (member s e || eqb d e)
     here q = rw (q, eq-eqb e d (sym (eqb-true d e q))) (sym (or-true (member s e)))
@@ -23,12 +19,5 @@ including-either s d e h = member-including s d e h ∙ by-cases (eqb d e) here 
     other : eqb d e ≡ false → cond (eqb e d) true (member s e) ≡ (member s e || eqb d e)
     other q = rw (q, ne-eqb e d (λ r. eqb-false d e q (sym r))) (sym (or-false (member s e)))
 
-pub including-own : (s d : ℕ) → d < mostDistricts → member (including s d) d ≡ true
-including-own s d h = member-set mostDistricts s d true h
-
 pub including-other : (s d e : ℕ) → e < mostDistricts → eqb e d ≡ false → member (including s d) e ≡ member s e
-including-other s d e h n = member-including s d e h ∙ rw n
-
--- a set of the first k districts stays one
-pub including-lt : (k s d : ℕ) → k ≤ mostDistricts → s < 2 ^ k → d < k → including s d < 2 ^ k
-including-lt k s d = place-below mostDistricts k s d true
+including-other s d e h n = member-place mostDistricts s d true e h ∙ rw n

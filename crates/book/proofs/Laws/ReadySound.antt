@@ -8,14 +8,15 @@ use lib.Dec.{eqb}
 use lib.ListN.{length-set}
 use borrow.Author.Tests.{eqb-true, eq-eqb, ne-eqb}
 use Rattle.conditions.proofs.Laws.Below.{by-cases}
+use Rattle.conditions.proofs.Laws.Places.{place-below, member-set}
 use Rattle.book.specs.declared.Record.{Record}
 use Rattle.book.specs.declared.Item.{Item}
 use Rattle.book.specs.declared.Open.{Open}
 use Rattle.book.specs.declared.Book.{Book}
-use Rattle.book.specs.Book.{noRecord, noOpen, recordAt, itemAt, openAt, idle, recordOn, itemOn, placeOf, openOf}
+use Rattle.book.specs.Book.{mostDistricts, noRecord, noOpen, recordAt, itemAt, openAt, idle, recordOn, itemOn, placeOf, openOf}
 use Rattle.book.specs.Records.{computingOn, readyRecord}
 use Rattle.book.specs.Ready.{reported, readied}
-use Rattle.book.proofs.Laws.Including.{including-own, including-other, including-lt}
+use Rattle.book.proofs.Laws.Including.{including-other}
 use Rattle.book.specs.Shaped.{Shaped}
 use Rattle.book.proofs.Laws.Rows.{getD-set}
 use Rattle.book.proofs.Laws.But.{DistrictRow, OpenRow, SoundBut, Seen, seen-at, district-stays, item-stays, place-open, computing-on}
@@ -69,7 +70,7 @@ module _ (w : ℕ) (b : Book) (s : SoundBut w b) (t : Shaped w b) (n d : ℕ) (p
   row : OpenRow (b .districts) (b .last .0) (reported d o)
   row = record {
     touched = old .touched;
-    ready = including-lt (b .districts) (o .ready) d (s .fewDistricts) (old .ready) l;
+    ready = place-below mostDistricts (b .districts) (o .ready) d true (s .fewDistricts) (old .ready) l;
     gave = old .gave;
     decisions = old .decisions;
     given = old .given;
@@ -85,7 +86,7 @@ module _ (w : ℕ) (b : Book) (s : SoundBut w b) (t : Shaped w b) (n d : ℕ) (p
       gaveTouched = old .sets e h .gaveTouched;
       completedReady = λ v k.
           by-cases (eqb e d)
-          (λ m. rw (eqb-true e d m) (including-own (o .ready) d (lt-of-lt-of-le l (s .fewDistricts))))
+          (λ m. rw (eqb-true e d m) (member-set mostDistricts (o .ready) d true (lt-of-lt-of-le l (s .fewDistricts))))
           (λ m. including-other (o .ready) d e (lt-of-lt-of-le h (s .fewDistricts)) m ∙ old .sets e h .completedReady v k);
     };
   }
@@ -98,7 +99,7 @@ module _ (w : ℕ) (b : Book) (s : SoundBut w b) (t : Shaped w b) (n d : ℕ) (p
     idleNone = λ k. absurd (false≢true k);
     busyOpen = λ k. p;
     busyTouched = λ k. was .busyTouched busy;
-    waitingReady = λ k. including-own (o .ready) d (lt-of-lt-of-le l (s .fewDistricts));
+    waitingReady = λ k. member-set mostDistricts (o .ready) d true (lt-of-lt-of-le l (s .fewDistricts));
     computingNotReady = λ k. absurd (omega arith);
     computingNotGave = λ k. absurd (omega arith);
   }

@@ -27,9 +27,7 @@ use Rattle.book.specs.Records.{computingOn}
 use Rattle.book.specs.Items.{there, concerned, install, drop, split, reduceItem}
 use Rattle.book.specs.Forget.{forget}
 use Rattle.book.specs.Begin.{heldAt, results, beginItem, begun}
-use Rattle.book.specs.Ready.{readied}
 use Rattle.book.specs.GiveUp.{giveUpItem, gaveUp}
-use Rattle.book.specs.Decide.{decide}
 use Rattle.book.specs.Hear.{outcome, hearItem, heard}
 use Rattle.book.specs.Sound.{Sound}
 use Rattle.book.proofs.Laws.Rows.{getD-rows}
@@ -58,16 +56,6 @@ select-at w q done gone c d = made-at w (λ a. cond (member a q) (at done a) (at
 pub forget-item : (w : ℕ) (b : Book) (i : ℕ) → itemAt (forget w b) i ≡ itemAt b i
 unfolding forget
 forget-item w b i = refl
-
--- nor does ready
-pub ready-item : (w : ℕ) (b : Book) (n d i : ℕ) → itemAt (readied w b n d) i ≡ itemAt b i
-unfolding readied
-ready-item w b n d i = refl
-
--- nor a decision
-pub decide-item : (w : ℕ) (b : Book) (n v i : ℕ) → itemAt (decide w b n v) i ≡ itemAt b i
-unfolding decide
-decide-item w b n v i = refl
 
 module _ (w : ℕ) (b : Book) (s : Sound w b) (t : Shaped w b) where
   -- the items below the count are rows of the table
