@@ -11,6 +11,7 @@ use libc::STDIN_FILENO;
 use libc::STDOUT_FILENO;
 use sheet::EventAt;
 use sheet::LONGEST_LINE;
+use sheet::MOST_BYTES;
 use sheet::Opened;
 use sheet::event_at;
 use sheet::open;
@@ -86,8 +87,8 @@ fn print(sheet: &[u8], out: &mut [u8]) {
 }
 
 fn main() {
-    let mut input = [0u8; 32769];
+    let mut input = [0u8; MOST_BYTES + 1];
     let n = io::read_full(STDIN_FILENO, &mut input);
-    let mut out = [0u8; 131120];
+    let mut out = [0u8; 2 * LONGEST_LINE];
     print(&input[..n], &mut out);
 }
