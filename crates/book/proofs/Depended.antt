@@ -2,9 +2,8 @@
 use mathlib.Core.Path.{_≡_, refl, sym, ap, ap₂, _∙_}
 use mathlib.Core.Bool.{Bool, true, false, _||_, cond}
 use mathlib.Core.List.{List, [], _∷_}
-use Prim.Native.Nat.{ℕ, _+_, _^_, _≤_, _<_}
+use Prim.Native.Nat.{ℕ, _+_, _≤_, _<_}
 use native.Mathlib.Decide.{decLt}
-use native.Mathlib.Numerals.{add-one}
 use native.Mathlib.Omega.{arith}
 use lib.Bits.{bitOr, or-lt}
 use lib.Dec.{eqb, ltb}
@@ -12,40 +11,35 @@ use lib.IntN.{ℤ}
 use lib.ListN.{getD, take}
 use lib.Pow.{pow-pos}
 use borrow.Author.Tests.{eqb-true}
-use Rattle.conditions.specs.Below.{any}
-use Rattle.conditions.specs.Places.{places, withPlace}
+use Rattle.conditions.specs.Places.{places}
 use Rattle.conditions.specs.declared.condition.Condition.{Condition}
-use Rattle.conditions.specs.Conditions.{number, ofNumber, always, full, dependsOn}
+use Rattle.conditions.specs.Conditions.{number, ofNumber, always, full}
 use Rattle.conditions.specs.Sets.{member, setOf}
 use Rattle.conditions.proofs.Laws.Sets.{member-past, member-none, member-or, setOf-lt, member-setOf, is-setOf}
-use Rattle.conditions.proofs.Laws.Below.{none-any}
-use Rattle.conditions.proofs.Laws.Conditions.{always-full, member-full, depends-past}
-use Rattle.conditions.proofs.Laws.Places.{place-lt}
+use Rattle.conditions.proofs.Laws.Conditions.{always-full, depends-past}
 use Rattle.polyvalues.specs.declared.polyvalue.Pair.{Pair}
 use Rattle.polyvalues.specs.declared.polyvalue.Polyvalue.{Polyvalue}
-use Rattle.polyvalues.specs.Pairs.{assignments, depends}
+use Rattle.polyvalues.specs.Pairs.{assignments, depends, certain}
 use Rattle.polyvalues.specs.Polyvalues.{paired, inUse}
+use Rattle.polyvalues.proofs.Laws.Depends.{certain-free}
 use Rattle.book.specs.declared.Book.{Book}
 use Rattle.book.specs.declared.Item.{Item}
 use Rattle.book.specs.declared.tables.Tables.{Tables}
 use Rattle.book.specs.Book.{noRecord, itemAt, itemDepends, someDepends}
 use Rattle.book.specs.SoundTest.{zeroRecord, soundRecord, soundDistrict}
 use Rattle.book.specs.Tables.{TablesOf}
+use Rattle.book.proofs.Loops.{Gathered, gathered-more}
 
 -- ---- what depends on no place
 
-full-free : (w q : ℕ) → dependsOn w (full w) q ≡ false
-unfolding dependsOn
-full-free w q = none-any (2 ^ w) _ (λ a h. rw (member-full w (withPlace w a q true) (place-lt w a q true), member-full w (withPlace w a q false) (place-lt w a q false)))
-
-pub certain-free : (p : Polyvalue) → p .count ≡ 1 → eqb (number (getD (p .conditions) 0 (ofNumber 0))) (number always) ≡ true → (q : ℕ) → depends places (inUse p) q ≡ false
-unfolding inUse depends
-certain-free p one e q = rw one (go (p .values) (p .conditions) e)
+pub always-free : (p : Polyvalue) → p .count ≡ 1 → eqb (number (getD (p .conditions) 0 (ofNumber 0))) (number always) ≡ true → (q : ℕ) → depends places (inUse p) q ≡ false
+unfolding inUse depends certain
+always-free p one e q = rw one (go (p .values) (p .conditions) e)
   where
     go : (vs : List ℤ) (cs : List Condition) → eqb (number (getD cs 0 (ofNumber 0))) (number always) ≡ true → depends places (take 1 (paired vs cs)) q ≡ false
     go [] cs e = refl
     go (v ∷ vs) [] e = refl
-    go (v ∷ vs) (c ∷ cs) e = let same : number c ≡ full places = eqb-true (number c) (number always) e ∙ always-full in rw (same, full-free places q)
+    go (v ∷ vs) (c ∷ cs) e = let same : number c ≡ full places = eqb-true (number c) (number always) e ∙ always-full in rw same (certain-free places v q)
 
 pub none-in-set : (k : ℕ) (f : ℕ → Bool) → ((q : ℕ) → f q ≡ false) → 0 ≡ setOf k f
 none-in-set k f e = is-setOf k 0 f (pow-pos k) (λ n h. member-none n ∙ sym (e n))
@@ -81,18 +75,10 @@ set-member w x q e = ap (λ (n : ℕ). member n q) e ∙ pick (decLt q w)
 
 -- s has the places that an item before i depends on
 abbrev pub DependedBy : ℕ → Book → ℕ → ℕ → Type 0
-DependedBy w b i s = (q : ℕ) → q < w → member s q ≡ any i (λ j. itemDepends w (itemAt b j) q)
-
-pub none-depended : (w : ℕ) (b : Book) → DependedBy w b 0 0
-unfolding any
-none-depended w b q h = member-none q
+DependedBy w b = Gathered w (λ j. itemDepends w (itemAt b j))
 
 pub depended-more : (w : ℕ) (b : Book) (i s : ℕ) {t : ℕ} → DependedBy w b i s → t ≡ setOf w (itemDepends w (itemAt b i)) → DependedBy w b (i + 1) (bitOr s t)
-unfolding any
-depended-more w b i s {t} e f q h =
-    rw add-one
-    (member-or s t q
-    ∙ ap₂ _||_ (e q h) (ap (λ (n : ℕ). member n q) f ∙ member-setOf w (itemDepends w (itemAt b i)) q h))
+depended-more w b i s {t} e f = gathered-more w _ i s (bitOr s t) e (λ q h. member-or s t q ∙ ap (λ (m : Bool). member s q || m) (set-member w (itemAt b i) q f))
 
 pub all-depended : (w : ℕ) (b : Book) (s : ℕ) {i : ℕ} → i ≡ b .count → DependedBy w b i s → (q : ℕ) → q < w → member s q ≡ someDepends w b q
 unfolding someDepends

@@ -2,14 +2,12 @@
 use mathlib.Core.Path.{_≡_, sym, ap, _∙_}
 use mathlib.Core.Bool.{Bool, true, false, _||_, cond, or-true, or-false}
 use Prim.Native.Nat.{ℕ, _+_, _*_, _%_, _^_, _<_}
-use native.Mathlib.Nat.{one-mul}
 use native.Mathlib.Omega.{arith}
 use lib.Dec.{eqb}
 use lib.Bits.{bitOr, or-lt}
-use lib.Pow.{shl-exact}
 use Rattle.conditions.specs.Sets.{member}
 use Rattle.conditions.specs.Places.{withPlace}
-use Rattle.conditions.proofs.Laws.Sets.{member-none, member-or}
+use Rattle.conditions.proofs.Laws.Sets.{member-none, member-or, one-shl}
 use Rattle.conditions.proofs.Laws.Places.{place-lt, member-place, is-place, place-up}
 use Rattle.book.specs.Book.{mostDistricts, including}
 
@@ -22,7 +20,7 @@ including-is s d l h =
     let zero : 0 < 2 ^ mostDistricts = omega arith in
     let up : withPlace mostDistricts 0 d true ≡ 2 ^ d + 0 = place-up mostDistricts 0 d zero h (member-none d) in
     let one : 1 * 2 ^ d % 2 ^ mostDistricts ≡ withPlace mostDistricts 0 d true =
-    shl-exact {a = 1} 1 d mostDistricts (omega arith) (omega arith) ∙ one-mul (2 ^ d) ∙ (let e : 2 ^ d ≡ 2 ^ d + 0 = omega arith in e) ∙ sym up in
+    one-shl mostDistricts d h ∙ (let e : 2 ^ d ≡ 2 ^ d + 0 = omega arith in e) ∙ sym up in
     rw one
     (is-place mostDistricts s d true (bitOr s (withPlace mostDistricts 0 d true)) (or-lt mostDistricts s (withPlace mostDistricts 0 d true) l (place-lt mostDistricts 0 d true))
     (λ j k.

@@ -1,10 +1,14 @@
--- One turn of a loop that changes each row of a table, or each item of a book where it lies, one after the other.
+-- One turn of a loop that changes each row of a table, or each item of a book where it lies, or gathers a set from them, one after the other.
 use mathlib.Core.Path.{_≡_, ap, ap₂, _∙_}
+use mathlib.Core.Bool.{Bool, _||_}
 use mathlib.Core.List.{List}
 use Prim.Native.Nat.{ℕ, _+_, _<_}
 use native.Mathlib.Numerals.{add-one}
 use native.Mathlib.Omega.{arith}
 use lib.ListN.{length, getD, set}
+use Rattle.conditions.specs.Below.{any}
+use Rattle.conditions.specs.Sets.{member}
+use Rattle.conditions.proofs.Laws.Sets.{member-none}
 use Rattle.book.specs.declared.Book.{Book}
 use Rattle.book.specs.declared.Item.{Item}
 use Rattle.book.specs.Rows.{rows}
@@ -29,3 +33,15 @@ module _ (f : ℕ → Item → Item) (was : Book) {now : Book} (i : ℕ) (so-far
   item-turn held h {y} e =
       let items = turn f voidItem i (was .items) (now .items) y (omega (arith, items-long held)) (ap (λ (b : Book). b .items) so-far) e in
       λ k. withItems (so-far k) (items k)
+
+-- of the numbers below k, the set s has those that an item before i passes a test with
+abbrev pub Gathered : ℕ → (ℕ → ℕ → Bool) → ℕ → ℕ → Type 0
+Gathered k f i s = (n : ℕ) → n < k → member s n ≡ any i (λ j. f j n)
+
+pub gathered-none : (k : ℕ) (f : ℕ → ℕ → Bool) → Gathered k f 0 0
+unfolding any
+gathered-none k f n h = member-none n
+
+pub gathered-more : (k : ℕ) (f : ℕ → ℕ → Bool) (i s r : ℕ) → Gathered k f i s → ((n : ℕ) → n < k → member r n ≡ (member s n || f i n)) → Gathered k f (i + 1) r
+unfolding any
+gathered-more k f i s r e g n h = rw add-one (g n h ∙ ap (λ (m : Bool). m || f i n) (e n h))

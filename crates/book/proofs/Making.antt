@@ -12,7 +12,6 @@ use Rattle.conditions.specs.Places.{places}
 use Rattle.conditions.proofs.Laws.Lists.{drop-take}
 use Rattle.book.specs.declared.Book.{Book}
 use Rattle.book.specs.declared.Item.{Item}
-use Rattle.book.specs.declared.Opening.{Opening}
 use Rattle.book.specs.declared.maker.Openings.{Openings}
 use Rattle.book.specs.Book.{mostItems, noItem, noBook}
 use Rattle.book.specs.Open.{noOpening, goodItem, goodItems, goodOpening, openedItem, openedBook, opened}

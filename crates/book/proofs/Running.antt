@@ -1,13 +1,13 @@
 -- A step on a state, and a program run on one: what the code leaves is what the definition says, in rows.
 use mathlib.Core.Path.{_≡_, refl, sym, ap, _∙_}
-use mathlib.Core.Bool.{Bool, true, false, not, cond}
+use mathlib.Core.Bool.{Bool, true, false}
 use mathlib.Core.List.{List, _∷_}
 use Prim.Native.Nat.{ℕ, suc, _≤_, _<_}
 use native.Mathlib.Omega.{arith}
 use lib.IntN.{ℤ, pos, _+ℤ_}
 use lib.ListN.{length, getD, drop, drop-of-length-le}
 use borrow.Author.Tests.{eq-eqb, ne-eqb}
-use Rattle.conditions.proofs.Laws.Below.{by-cases, cond-same}
+use Rattle.conditions.proofs.Laws.Below.{by-cases, cond-same, cond-not}
 use Rattle.polyvalues.specs.declared.value.Added.the-variants.{Value, Declined}
 use Rattle.polyvalues.specs.Values.{inRange, below, sum, sumAs}
 use Rattle.book.specs.declared.Step.{Step}
@@ -25,40 +25,27 @@ use Rattle.book.proofs.Reading.{steps-more}
 
 -- ---- a step on a state
 
-cond-not : (b : Bool) (s t : ℕ → ℤ) → cond b s t ≡ cond (not b) t s
-cond-not true s t = refl
-cond-not false s t = refl
-
--- a step is known by its kind
-of-kind : (k : ℕ) (x : Step) → x .kind ≡ k → record { kind = k; item = x .item; operand = x .operand } ≡ x
-of-kind k x e = ap (λ (n : ℕ). record { kind = n; item = x .item; operand = x .operand }) (sym e)
-
 module _ (x : Step) (s : State) where
   pub stepped-need : length (s .values) ≡ mostItems → x .kind ≡ 1 → {b : Bool} → b ≡ below (stateOf s (x .item)) (x .operand) → record { declines = b; state = s } ≡ stepped x (stateOf s)
   unfolding stepped declines after
-  stepped-need l e d =
-      let same : s ≡ stateRows (cond (below (stateOf s (x .item)) (x .operand)) (stateOf s) (stateOf s)) = sym (ap stateRows (cond-same (below (stateOf s (x .item)) (x .operand)) (stateOf s)) ∙ rows-back s l) in
-      let need : record { declines = _; state = s } ≡ stepped (record { kind = 1; item = x .item; operand = x .operand }) (stateOf s) = λ k. record { declines = d k; state = same k } in
-      need ∙ ap (λ (y : Step). stepped y (stateOf s)) (of-kind 1 x e)
+  stepped-need l e d = rw (d, e, cond-same (below (stateOf s (x .item)) (x .operand)) (stateOf s), rows-back s l)
 
   pub stepped-add : x .kind ≡ 2 → added (stateOf s) (x .item) (stateOf s (x .item) +ℤ x .operand) ≡ stepped x (stateOf s)
   unfolding added stepped declines after
-  stepped-add e =
-      ap (λ (u : ℕ → ℤ). record { declines = not (inRange (stateOf s (x .item) +ℤ x .operand)); state = stateRows u }) (cond-not (inRange (stateOf s (x .item) +ℤ x .operand)) _ (stateOf s))
-      ∙ ap (λ (y : Step). stepped y (stateOf s)) (of-kind 2 x e)
+  stepped-add e = rw (e, cond-not (inRange (stateOf s (x .item) +ℤ x .operand)) (stateOf s))
 
   pub stepped-set : x .kind ≡ 3 → {t : State} → t ≡ stateRows (takes (stateOf s) (x .item) (x .operand)) → record { declines = false; state = t } ≡ stepped x (stateOf s)
   unfolding stepped declines after
-  stepped-set e d = ap (λ (u : State). record { declines = false; state = u }) d ∙ ap (λ (y : Step). stepped y (stateOf s)) (of-kind 3 x e)
+  stepped-set e d = rw (e, d)
 
   pub stepped-copy : x .kind ≡ 4 → {t : State} → t ≡ stateRows (takes (stateOf s) (x .item) (stateOf s (numbered (x .operand)))) → record { declines = false; state = t } ≡ stepped x (stateOf s)
   unfolding stepped declines after
-  stepped-copy e d = ap (λ (u : State). record { declines = false; state = u }) d ∙ ap (λ (y : Step). stepped y (stateOf s)) (of-kind 4 x e)
+  stepped-copy e d = rw (e, d)
 
   pub stepped-other : length (s .values) ≡ mostItems → (x .kind ≡ 1 → ⊥) → (x .kind ≡ 2 → ⊥) → (x .kind ≡ 3 → ⊥) → (x .kind ≡ 4 → ⊥)
       → record { declines = false; state = s } ≡ stepped x (stateOf s)
   unfolding stepped declines after
-  stepped-other l a b c d = rw (ne-eqb (x .kind) 1 a, ne-eqb (x .kind) 2 b, ne-eqb (x .kind) 3 c, ne-eqb (x .kind) 4 d) (ap (λ (u : State). record { declines = false; state = u }) (sym (rows-back s l)))
+  stepped-other l a b c d = rw (ne-eqb (x .kind) 1 a, ne-eqb (x .kind) 2 b, ne-eqb (x .kind) 3 c, ne-eqb (x .kind) 4 d, rows-back s l)
 
 after-past : (x : Step) (s : State) → length (s .values) ≡ mostItems → outside mostItems x ≡ false → (i : ℕ) → mostItems ≤ i → after x (stateOf s) i ≡ pos 0
 after-past x s l inside i h = after-other x (stateOf s) i (names-past mostItems x inside i h) ∙ state-past s l i h

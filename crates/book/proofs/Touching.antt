@@ -1,39 +1,28 @@
 -- The set of the districts that a program touches, as the code gathers it, and what it tells: whether one of them is busy.
 use mathlib.Core.Path.{_≡_, refl, sym, ap₂, _∙_}
-use mathlib.Core.Bool.{Bool, true, false, not, _&&_, _||_}
+use mathlib.Core.Bool.{Bool, true, false, not, _&&_}
 use mathlib.Core.List.{List}
-use Prim.Native.Nat.{ℕ, _+_, _<_}
-use native.Mathlib.Numerals.{add-one}
+use Prim.Native.Nat.{ℕ, _<_}
 use native.Mathlib.Omega.{arith}
 use lib.Dec.{eqb}
 use borrow.Author.Tests.{eq-eqb}
 use Rattle.conditions.specs.Below.{any}
 use Rattle.conditions.specs.Sets.{member, setOf}
 use Rattle.conditions.proofs.Laws.Below.{and-left, and-right, by-cases, none-any, any-of, any-some}
-use Rattle.conditions.proofs.Laws.Sets.{member-none, is-setOf}
+use Rattle.conditions.proofs.Laws.Sets.{is-setOf}
 use Rattle.book.specs.declared.Book.{Book}
 use Rattle.book.specs.declared.Step.{Step}
 use Rattle.book.specs.Book.{mostDistricts, recordAt, itemAt, recordOn, itemOn}
 use Rattle.book.specs.Programs.{touches}
 use Rattle.book.specs.Begin.{someBusy, touchesDistrict}
 use Rattle.book.specs.SoundTest.{sound}
+use Rattle.book.proofs.Loops.{Gathered}
 use Rattle.book.proofs.Laws.Sound.{test-sound}
 use Rattle.book.proofs.Laws.Touched.{touched-idle}
 
 -- s has the districts with a touched item before i
 abbrev pub TouchedBy : Book → List Step → ℕ → ℕ → Type 0
-TouchedBy b xs i s = (s < 256) × ((d : ℕ) → d < mostDistricts → member s d ≡ any i (λ j. touches xs j && eqb (itemAt b j .district) d))
-
-pub none-touched : (b : Book) (xs : List Step) → TouchedBy b xs 0 0
-unfolding any
-none-touched b xs = (omega arith, λ d h. member-none d)
-
--- one item more
-pub touched-more : (b : Book) (xs : List Step) (i s : ℕ) {r : ℕ} {t : Bool} → TouchedBy b xs i s → r < 256 → t ≡ touches xs i
-    → ((d : ℕ) → d < mostDistricts → member r d ≡ (member s d || (t && eqb (itemAt b i .district) d))) → TouchedBy b xs (i + 1) r
-unfolding any
-touched-more b xs i s e l f g =
-    (l, λ d h. rw add-one (g d h ∙ ap₂ (λ (m t : Bool). m || (t && eqb (itemAt b i .district) d)) (e .1 d h) f))
+TouchedBy b xs i s = (s < 256) × Gathered mostDistricts (λ j d. touches xs j && eqb (itemAt b j .district) d) i s
 
 module _ (b : Book) (xs : List Step) {i : ℕ} (s : ℕ) (last : i ≡ b .count) (e : TouchedBy b xs i s) where
   members : (d : ℕ) → d < mostDistricts → member s d ≡ touchesDistrict b xs d

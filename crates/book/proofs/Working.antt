@@ -118,7 +118,7 @@ module _ (xs : List Step) (s : State) (c : ℕ) (new : List Polyvalue) where
 -- ---- one more alternative
 
 -- in a sound book every held polyvalue gives one value
-pub sound-one : (b : Book) → sound places b ≡ true → Chosen places b
+sound-one : (b : Book) → sound places b ≡ true → Chosen places b
 sound-one b e i h a l = sound-well-formed places (itemAt b i .held) (test-sound places b e .held i h) .complete .once a l
 
 module _ (b : Book) (xs : List Step) (sure : sound places b ≡ true) (inside : someStep (outside (b .count)) xs ≡ false) (a : ℕ) (ha : a < 2 ^ places)

@@ -2,16 +2,16 @@
 use mathlib.Core.Path.{_≡_, refl, sym, ap, ap₂, _∙_}
 use mathlib.Core.Bool.{Bool, true, false, not, _&&_, _||_, cond, and-true, and-false, or-false}
 use Prim.Native.Nat.{ℕ, _+_, _-_, _*_, _/_, _%_, _^_, _<_}
-use native.Mathlib.Nat.{lt-of-le-of-lt, mod-lt, one-mul}
+use native.Mathlib.Nat.{lt-of-le-of-lt, mod-lt}
 use native.Mathlib.Decide.{decLt}
 use native.Mathlib.Omega.{arith}
-use lib.Pow.{pow-pos, pow-lt, shr-le, shl-exact, ones-sub-lt}
+use lib.Pow.{pow-pos, pow-lt, shr-le, ones-sub-lt}
 use lib.Bits.{bitAnd, bitOr, or-lt, and-le-l}
 use Rattle.conditions.specs.Sets.{member, setOf}
 use Rattle.conditions.specs.Places.{withPlace}
 use Rattle.conditions.specs.Conditions.{union, intersection, complement, completed, selected, reduced}
 use Rattle.conditions.specs.Products.{agrees}
-use Rattle.conditions.proofs.Laws.Sets.{member-and, member-or, member-not, member-shr, member-shl, member-shl-below, member-mod, member-setOf-not, is-setOf, setOf-same}
+use Rattle.conditions.proofs.Laws.Sets.{member-and, member-or, member-not, member-shr, member-shl, member-shl-below, member-mod, member-setOf-not, is-setOf, setOf-same, one-shl}
 use Rattle.conditions.proofs.Laws.Places.{place-lt, member-set, place-same, place-up, place-down, member-more}
 use Rattle.conditions.proofs.Laws.Conditions.{member-complement, member-completed}
 use Rattle.conditions.proofs.Laws.Products.{asks-not}
@@ -147,10 +147,7 @@ reduce-aborted w i {c} l hc q s d =
     (or-lt (2 ^ w) t (t * 2 ^ 2 ^ i % 2 ^ 2 ^ w) ht (mod-lt (t * 2 ^ 2 ^ i) (pow-pos (2 ^ w))))
     (λ n h. member-or t (t * 2 ^ 2 ^ i % 2 ^ 2 ^ w) n ∙ ap (λ (x : Bool). member t n || x) (member-mod (2 ^ w) (t * 2 ^ 2 ^ i) n h) ∙ aborted-at w i c n l h))
 
--- ---- `1 << i` in k bits, and that it is a distance a shift takes
-
-pub one-shl : (k i : ℕ) → i < k → 1 * 2 ^ i % 2 ^ k ≡ 2 ^ i
-one-shl k i h = shl-exact {a = 1} 1 i k (omega arith) (omega arith) ∙ one-mul (2 ^ i)
+-- ---- `1 << i` is a distance that a shift takes
 
 pub shift-lt : (w i : ℕ) → i < w → i < 2 ^ w → 1 * 2 ^ i % 2 ^ 2 ^ w < 2 ^ w
 shift-lt w i h l = rw (one-shl (2 ^ w) i l) (pow-lt h)

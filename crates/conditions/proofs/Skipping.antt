@@ -11,9 +11,9 @@ use lib.Pow.{pow-add, pow-lt, pow-pos}
 use borrow.Author.Tests.{ne-eqb}
 use Rattle.conditions.specs.Products.{tagAt, within, dropped, needed, NonePrime}
 use Rattle.conditions.proofs.Laws.Below.{by-cases}
+use Rattle.conditions.proofs.Laws.Sets.{one-shl}
 use Rattle.conditions.proofs.Laws.Products.{tag-dropped, tag-other, within-tags}
 use Rattle.conditions.proofs.Laws.Halves.{within-absent, within-completed, within-aborted, within-nothing}
-use Rattle.conditions.proofs.Masks.{one-shl}
 use Rattle.conditions.proofs.Primes.{not-within, not-needed}
 
 -- ---- `(c >> s) & (c & m)`, `c >> s` and `c & m` with `s = 1 << i` and `m = (1 << s) - 1`

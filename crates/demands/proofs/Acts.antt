@@ -1,10 +1,10 @@
 -- An accepted call on an open transaction: before it forgets, its event changes records, items and the transaction's row alone; what is open afterwards is as the event left it.
 use mathlib.Core.Path.{_≡_, sym, _∙_, ap}
-use mathlib.Core.Bool.{Bool, true, false, not, _||_, cond}
+use mathlib.Core.Bool.{Bool, true, false, not, _||_}
 use Prim.Native.Nat.{ℕ, _<_}
 use native.Mathlib.Omega.{arith}
 use lib.Dec.{eqb, ltb}
-use borrow.Author.Tests.{eqb-true, eqb-false, ltb-true, ltb-false}
+use borrow.Author.Tests.{eqb-false, ltb-true, ltb-false}
 use Rattle.conditions.proofs.Laws.Below.{by-cases}
 use Rattle.conditions.specs.declared.place.TransactionNumber.{TransactionNumber}
 use Rattle.book.specs.declared.Answer.{Answer}
@@ -17,7 +17,7 @@ use Rattle.book.specs.Forget.{decided, needed, kept, remembered, forget}
 use Rattle.book.specs.Sound.{Sound}
 use Rattle.book.specs.Shaped.{Whole}
 use Rattle.book.proofs.Laws.Sound.{place-named}
-use Rattle.book.proofs.Laws.But.{place-open}
+use Rattle.book.proofs.Laws.But.{place-open, row-alike}
 use Rattle.book.proofs.Laws.Forgetting.{forget-row, forget-open, forget-is-open}
 use Rattle.book.proofs.Laws.Calls.{WholeBut, forgotten, done-accepted}
 use Rattle.demands.specs.Calls.{Call}
@@ -65,10 +65,10 @@ pub record Acts (w : ℕ) (b c : Book) (n : ℕ) (o : Open) : Type 0 where
   pub last : c .last ≡ b .last
   pub districts : c .districts ≡ b .districts
   pub count : c .count ≡ b .count
-  pub opens : (q : ℕ) → q < w → isOpen (openAt c q) ≡ true → openAt c q ≡ cond (eqb q (placeOf w b n)) o (openAt b q)
+  pub opens : (q : ℕ) → q < w → isOpen (openAt c q) ≡ true → openAt c q ≡ rowWith b (placeOf w b n) o q
   pub stays : (q : ℕ) → q < w → isOpen (openAt b q) ≡ true
-      → isOpen (openAt c q) ≡ (not (decided (cond (eqb q (placeOf w b n)) o (openAt b q))) || needed w c q (openAt b q))
-  pub rows : (q : ℕ) → q < w → openAt c q ≡ remembered w c q (cond (eqb q (placeOf w b n)) o (openAt b q))
+      → isOpen (openAt c q) ≡ (not (decided (rowWith b (placeOf w b n) o q)) || needed w c q (openAt b q))
+  pub rows : (q : ℕ) → q < w → openAt c q ≡ remembered w c q (rowWith b (placeOf w b n) o q)
 
 -- a row of the transaction's number is open where its own is, and needed where its own is
 same-number : (w : ℕ) (c : Book) (q : ℕ) (o r : Open) → o .number ≡ r .number → (isOpen o ≡ isOpen r) × (needed w c q o ≡ needed w c q r)
@@ -77,13 +77,12 @@ same-number w c q o r e = (rw e, rw e)
 
 -- the places before it forgets, and after
 acts-stays : (w : ℕ) (b e c : Book) (n : ℕ) (o : Open) → Left w e c → o .number ≡ openOf w b n .number
-    → ((q : ℕ) → openAt e q ≡ cond (eqb q (placeOf w b n)) o (openAt b q))
-    → (q : ℕ) → q < w → isOpen (openAt b q) ≡ true → isOpen (openAt c q) ≡ (not (decided (cond (eqb q (placeOf w b n)) o (openAt b q))) || needed w c q (openAt b q))
+    → ((q : ℕ) → openAt e q ≡ rowWith b (placeOf w b n) o q)
+    → (q : ℕ) → q < w → isOpen (openAt b q) ≡ true → isOpen (openAt c q) ≡ (not (decided (rowWith b (placeOf w b n) o q)) || needed w c q (openAt b q))
 unfolding kept
 acts-stays w b e c n o f number opens q h k =
-    let row : Open = cond (eqb q (placeOf w b n)) o (openAt b q) in
-    let its : row .number ≡ openAt b q .number = by-cases (eqb q (placeOf w b n)) (λ z. rw (z, eqb-true q (placeOf w b n) z) number) (λ z. rw z) in
-    let same = same-number w c q row (openAt b q) its in
+    let row : Open = rowWith b (placeOf w b n) o q in
+    let same = same-number w c q row (openAt b q) (row-alike (λ (x : Open). x .number) b (placeOf w b n) o number q) in
     let stood : isOpen (openAt e q) ≡ true = rw (opens q) (same .0 ∙ k) in
     let gone : isOpen (openAt c q) ≡ (not (decided row) || needed w c q row) = rw (opens q) at (f .stays q h stood) in
     gone ∙ ap (λ (y : Bool). not (decided row) || y) (same .1)
@@ -91,7 +90,7 @@ acts-stays w b e c n o f number opens q h k =
 -- an event that changes only records, items and the transaction's row, and then forgetting
 pub acts : (w : ℕ) (b e c : Book) (n : ℕ) (o : Open) → Sound w b → placeOf w b n < w → o .number ≡ openOf w b n .number
     → Left w e c → e .last ≡ b .last → e .districts ≡ b .districts → e .count ≡ b .count
-    → ((q : ℕ) → openAt e q ≡ cond (eqb q (placeOf w b n)) o (openAt b q)) → Acts w b c n o
+    → ((q : ℕ) → openAt e q ≡ rowWith b (placeOf w b n) o q) → Acts w b c n o
 acts w b e c n o s place number f last districts count opens = record {
   before = s;
   after = f .whole;

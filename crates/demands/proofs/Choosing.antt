@@ -40,7 +40,7 @@ abbrev pub chosenAt : Book → (ℕ → Bool) → ℕ → ℕ → ℤ
 chosenAt b g a i = cond (g (itemOn b (itemAt b i))) (pendingAt b a i) (heldAt b a i)
 
 -- both values as they were, on the same transaction
-pub chosen-same : (b c : Book) (g : ℕ → Bool) (a i : ℕ) → itemOn c (itemAt c i) ≡ itemOn b (itemAt b i) → heldAt c a i ≡ heldAt b a i → pendingAt c a i ≡ pendingAt b a i
+chosen-same : (b c : Book) (g : ℕ → Bool) (a i : ℕ) → itemOn c (itemAt c i) ≡ itemOn b (itemAt b i) → heldAt c a i ≡ heldAt b a i → pendingAt c a i ≡ pendingAt b a i
     → chosenAt c g a i ≡ chosenAt b g a i
 chosen-same b c g a i e f k = rw (e, f, k)
 

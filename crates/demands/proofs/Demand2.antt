@@ -18,9 +18,10 @@ use Rattle.book.specs.GiveUp.{marked}
 use Rattle.book.specs.Begin.{heldAt}
 use Rattle.book.specs.Show.{shown}
 use Rattle.book.specs.Shaped.{Shaped}
+use Rattle.book.proofs.Laws.But.{row-alike}
 use Rattle.demands.proofs.Events.{values-stay, begin-values, ready-keeps, give-up-values, complete-keeps, abort-keeps, hear-values}
 use Rattle.demands.specs.Calls.{Call, beginsWith, readies, givesUp, completes, aborts, hears, shows, answerTo, bookAfter}
-use Rattle.demands.specs.Demands.{pendingAt, Values, isDecided, Demand2}
+use Rattle.demands.specs.Demands.{pendingAt, Values, rowWith, isDecided, Demand2}
 use Rattle.demands.proofs.Acts.{Acts, acts-number, acts-other}
 use Rattle.demands.proofs.Tables.{ready-acts, give-up-acts, complete-acts, abort-acts, hear-acts, begin-number, begin-grant, begin-stays, ready-record, give-up-record, complete-record, abort-record, hear-record, begin-record}
 use Rattle.demands.proofs.Leaving.{show-left, leaves}
@@ -33,12 +34,12 @@ stays b c i e a = values-stay b c a i e (record { held = refl; pending = refl })
 -- ---- forgetting
 
 -- a row that a call changes keeps its decision
-row-decided : (w : ℕ) (b : Book) (n : ℕ) (o : Open) (q : ℕ) → decided o ≡ decided (openOf w b n) → decided (cond (eqb q (placeOf w b n)) o (openAt b q)) ≡ (decided (openAt b q) || false)
-row-decided w b n o q e = by-cases (eqb q (placeOf w b n)) (λ z. rw (z, eqb-true q (placeOf w b n) z) (e ∙ sym (or-false _))) (λ z. rw z (sym (or-false _)))
+row-decided : (w : ℕ) (b : Book) (n : ℕ) (o : Open) (q : ℕ) → decided o ≡ decided (openOf w b n) → decided (rowWith b (placeOf w b n) o q) ≡ (decided (openAt b q) || false)
+row-decided w b n o q e = row-alike decided b (placeOf w b n) o e q ∙ sym (or-false _)
 
 -- or the call decides it, and no other
 row-decides : (w : ℕ) (b c : Book) (n : ℕ) (o : Open) → Acts w b c n o → decided o ≡ true → (q : ℕ) → q < w → isOpen (openAt b q) ≡ true
-    → decided (cond (eqb q (placeOf w b n)) o (openAt b q)) ≡ (decided (openAt b q) || eqb n (openAt b q .number .0))
+    → decided (rowWith b (placeOf w b n) o q) ≡ (decided (openAt b q) || eqb n (openAt b q .number .0))
 row-decides w b c n o act e q h k =
     by-cases (eqb q (placeOf w b n))
     (λ z. rw (z, e, eqb-true q (placeOf w b n) z, eq-eqb n (openOf w b n .number .0) (sym (acts-number w b c n o act))) (sym (or-true (decided (openOf w b n)))))

@@ -19,6 +19,7 @@ use Rattle.book.specs.GiveUp.{giveUpAnswer, gaveUp, giveUp}
 use Rattle.book.specs.Decide.{completeAnswer, abortAnswer, decide, complete, abort}
 use Rattle.book.specs.Hear.{hearAnswer, heard, hear}
 use Rattle.book.specs.Shaped.{Shaped, Whole}
+use Rattle.book.proofs.Laws.But.{row-alike}
 use Rattle.book.proofs.Laws.BeginSound.{free-place}
 use Rattle.demands.proofs.Events.{complete-keeps, abort-keeps}
 use Rattle.book.proofs.Laws.Calls.{done-refused, begin-tests}
@@ -109,16 +110,10 @@ module _ (w : ℕ) (s₀ : ℕ → ℤ) (b : Book) (past : List Said) (v : Inv w
   acts-inv c n o x act none ledger late keeps = record {
     whole = act .after;
     ledger = ledger;
-    main = main-after c (x ∷ past) (act .after) (act .count) numbers (λ g legal a says i h.
+    main = main-after c (x ∷ past) (act .after) (act .count) (λ q h k z. rw (act .opens q h k) (row-alike (λ (r : Open). r .number) b (placeOf w b n) o (act .number) q)) (λ g legal a says i h.
         let before = guess-before past x g legal late in
         keeps g before legal a says i h ∙ v .main g before a says i h ∙ ap (λ (f : ℕ → ℤ). f i) (sym (serial-other g s₀ past x none)));
   }
-    where
-      numbers : (q : ℕ) → q < w → isOpen (openAt c q) ≡ true → isOpen (openAt b q) ≡ true → openAt c q .number ≡ openAt b q .number
-      numbers q h k z =
-          by-cases (eqb q (placeOf w b n))
-          (λ e. rw (act .opens q h k, e, eqb-true q (placeOf w b n) e) (act .number))
-          (λ e. rw (act .opens q h k, e))
 
   -- a call that does not complete completes nothing
   notLate : (x : Said) → ((m : ℕ) → asksComplete m (x .call) ≡ false) → (m : ℕ) → wasGivenUp past m ≡ true → wasCompleted past m ≡ false → wasCompleted (x ∷ past) m ≡ false

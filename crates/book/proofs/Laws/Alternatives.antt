@@ -1,18 +1,17 @@
 -- One run for a block of assignments stands for a run under each of them.
 use mathlib.Core.Path.{_≡_, refl, sym, ap, ap₂, _∙_}
-use mathlib.Core.Bool.{Bool, true, false, not, _&&_, _||_, cond, true≢false, and-false, or-true, or-false}
+use mathlib.Core.Bool.{Bool, true, false, not, _&&_, _||_, cond, true≢false, and-false, or-true, or-false, Bool·not-not}
 use mathlib.Core.List.{List}
 use Prim.Native.Nat.{ℕ, zero, suc, _^_, _≤_, _<_}
 use native.Mathlib.Omega.{arith}
 use lib.Dec.{eqb}
 use borrow.Author.Count.{below-more}
-use borrow.Author.Tests.{not-true, not-false}
 use Rattle.conditions.specs.Below.{all, any}
 use Rattle.conditions.specs.Sets.{member}
-use Rattle.conditions.specs.Conditions.{full, union, intersection}
-use Rattle.conditions.proofs.Laws.Below.{and-left, and-right, or-left, or-right, by-cases, all-of, all-fails, any-of, any-none, any-some, none-any}
+use Rattle.conditions.specs.Conditions.{full, union}
+use Rattle.conditions.proofs.Laws.Below.{and-left, and-right, or-left, or-right, by-cases, cond-not, all-of, all-fails, any-of, any-none, any-some, none-any}
 use Rattle.conditions.proofs.Laws.Conditions.{member-full, member-union, member-intersection, full-lt, intersection-lt}
-use Rattle.polyvalues.specs.Pairs.{applies, applying, hits}
+use Rattle.polyvalues.specs.Pairs.{hits}
 use Rattle.polyvalues.specs.Polyvalues.{inUse}
 use Rattle.polyvalues.specs.Simplify.{join, canonOver}
 use Rattle.polyvalues.proofs.Laws.Applying.{applying-applies, applying-same}
@@ -22,7 +21,7 @@ use Rattle.book.specs.declared.Step.{Step}
 use Rattle.book.specs.Book.{itemAt}
 use Rattle.book.specs.Programs.{run, touches}
 use Rattle.book.specs.Begin.{heldAt, declinesAt, grant}
-use Rattle.book.specs.Alternatives.{conditionAt, blockBelow, block, someDeclines, someGrants}
+use Rattle.book.specs.Alternatives.{conditionAt, blockBelow, block, someDeclines, someGrants, grantOf}
 use Rattle.book.proofs.Laws.Programs.{declined-reads, run-reads}
 
 -- every held polyvalue of the book gives one value under each assignment
@@ -34,26 +33,20 @@ abbrev pub InTable : Book → List Step → Type 0
 InTable b xs = (i : ℕ) → touches xs i ≡ true → i < b .count
 
 module _ (w : ℕ) (b : Book) (xs : List Step) where
-  pub block-lt : (a k : ℕ) → blockBelow w b xs a k < 2 ^ 2 ^ w
+  block-lt : (a k : ℕ) → blockBelow w b xs a k < 2 ^ 2 ^ w
   unfolding blockBelow
   block-lt a zero = full-lt w
-  block-lt a (suc k) = go (touches xs k) (block-lt a k)
-    where
-      go : (t : Bool) → blockBelow w b xs a k < 2 ^ 2 ^ w → cond t (intersection w (blockBelow w b xs a k) (conditionAt b a k)) (blockBelow w b xs a k) < 2 ^ 2 ^ w
-      go true h = intersection-lt w (blockBelow w b xs a k) (conditionAt b a k)
-      go false h = h
+  block-lt a (suc k) = by-cases (touches xs k) (λ t. rw t (intersection-lt w (blockBelow w b xs a k) (conditionAt b a k))) (λ t. rw t (block-lt a k))
 
   -- an assignment is in its own block
   own-below : Chosen w b → (a : ℕ) → a < 2 ^ w → (k : ℕ) → k ≤ b .count → member (blockBelow w b xs a k) a ≡ true
   unfolding blockBelow
   own-below one a h zero l = member-full w a h
-  own-below one a h (suc k) l = go (touches xs k) (own-below one a h k (omega arith))
-    where
-      go : (t : Bool) → member (blockBelow w b xs a k) a ≡ true → member (cond t (intersection w (blockBelow w b xs a k) (conditionAt b a k)) (blockBelow w b xs a k)) a ≡ true
-      go true e =
-          member-intersection w (blockBelow w b xs a k) (conditionAt b a k) a h
-          ∙ ap₂ _&&_ e (applying-applies (inUse (itemAt b k .held)) a (one k (omega arith) a h))
-      go false e = e
+  own-below one a h (suc k) l =
+      by-cases (touches xs k)
+      (λ t. rw t (member-intersection w (blockBelow w b xs a k) (conditionAt b a k) a h
+      ∙ ap₂ _&&_ (own-below one a h k (omega arith)) (applying-applies (inUse (itemAt b k .held)) a (one k (omega arith) a h))))
+      (λ t. rw t (own-below one a h k (omega arith)))
 
   pub block-own : Chosen w b → (a : ℕ) → a < 2 ^ w → member (block w b xs a) a ≡ true
   unfolding block
@@ -64,22 +57,16 @@ module _ (w : ℕ) (b : Book) (xs : List Step) where
       → (i : ℕ) → i < k → touches xs i ≡ true → heldAt b c i ≡ heldAt b a i
   unfolding blockBelow
   same-below one a c ha hc zero l e i h t = absurd (omega arith)
-  same-below one a c ha hc (suc k) l e i h t = go (touches xs k) refl e (λ f. same-below one a c ha hc k (omega arith) f)
+  same-below one a c ha hc (suc k) l e i h t =
+      by-cases (touches xs k)
+      (λ u.
+      let both = sym (member-intersection w (blockBelow w b xs a k) (conditionAt b a k) c hc) ∙ rw u at e in
+      below-more Same k (same-below one a c ha hc k (omega arith) (and-left (member (blockBelow w b xs a k) c) _ both))
+      (λ s. applying-same (inUse (itemAt b k .held)) a c (one k (omega arith) a ha) (one k (omega arith) c hc) (and-right (member (blockBelow w b xs a k) c) _ both)) i (omega arith) t)
+      (λ u. below-more Same k (same-below one a c ha hc k (omega arith) (rw u at e)) (λ s. absurd (true≢false (sym s ∙ u))) i (omega arith) t)
     where
-      last : applies (applying (inUse (itemAt b k .held)) a) c ≡ true → heldAt b c k ≡ heldAt b a k
-      last f = applying-same (inUse (itemAt b k .held)) a c (one k (omega arith) a ha) (one k (omega arith) c hc) f
-
       Same : ℕ → Type 0
-      Same i = touches xs i ≡ true → heldAt b c i ≡ heldAt b a i
-
-      go : (u : Bool) → touches xs k ≡ u → member (cond u (intersection w (blockBelow w b xs a k) (conditionAt b a k)) (blockBelow w b xs a k)) c ≡ true
-          → (member (blockBelow w b xs a k) c ≡ true → (j : ℕ) → j < k → Same j) → heldAt b c i ≡ heldAt b a i
-      go true q f rest =
-          let both = sym (member-intersection w (blockBelow w b xs a k) (conditionAt b a k) c hc) ∙ f in
-          below-more Same k (rest (and-left (member (blockBelow w b xs a k) c) _ both))
-          (λ s. last (and-right (member (blockBelow w b xs a k) c) _ both)) i (omega arith) t
-      go false q f rest =
-          below-more Same k (rest f) (λ s. absurd (true≢false (sym s ∙ q))) i (omega arith) t
+      Same j = touches xs j ≡ true → heldAt b c j ≡ heldAt b a j
 
   module _ (one : Chosen w b) (table : InTable b xs) (a : ℕ) (ha : a < 2 ^ w) where
     agree : (c : ℕ) → c < 2 ^ w → member (block w b xs a) c ≡ true → (i : ℕ) → touches xs i ≡ true → heldAt b c i ≡ heldAt b a i
@@ -87,7 +74,7 @@ module _ (w : ℕ) (b : Book) (xs : List Step) where
     agree c hc e i t = same-below one a c ha hc (b .count) (omega arith) e i (table i t) t
 
     -- so a run under one of its assignments is a run under each
-    pub run-block : (c : ℕ) → c < 2 ^ w → member (block w b xs a) c ≡ true → (i : ℕ) → touches xs i ≡ true → run xs (heldAt b c) i ≡ run xs (heldAt b a) i
+    run-block : (c : ℕ) → c < 2 ^ w → member (block w b xs a) c ≡ true → (i : ℕ) → touches xs i ≡ true → run xs (heldAt b c) i ≡ run xs (heldAt b a) i
     run-block c hc e i t = run-reads xs (heldAt b c) (heldAt b a) (agree c hc e) i t
 
     pub declines-block : (c : ℕ) → c < 2 ^ w → member (block w b xs a) c ≡ true → declinesAt b xs c ≡ declinesAt b xs a
@@ -131,29 +118,18 @@ module _ (w : ℕ) (b : Book) (xs : List Step) where
 
   -- ---- when all is covered
 
-  pub grant-is : grant w b xs ≡ cond (someDeclines w b xs (full w)) (cond (someGrants w b xs (full w)) 2 0) 1
+  -- every assignment passes a test where none fails it
+  every : (f g : ℕ → Bool) → ((a : ℕ) → f a ≡ not (g a)) → all (2 ^ w) f ≡ not (any (2 ^ w) (λ a. member (full w) a && g a))
+  every f g e =
+      by-cases (any (2 ^ w) (λ a. member (full w) a && g a))
+      (λ q.
+      let found = any-some (2 ^ w) (λ a. member (full w) a && g a) q in
+      rw q (all-fails (2 ^ w) f (found .0) (found .1) (e (found .0) ∙ ap not (and-right (member (full w) (found .0)) _ (found .2)))))
+      (λ q. rw q (all-of (2 ^ w) f (λ a h. e a ∙ ap not (ap (λ (x : Bool). x && g a) (sym (member-full w a h)) ∙ any-none (2 ^ w) (λ a. member (full w) a && g a) q a h))))
+
+  pub grant-is : grant w b xs ≡ grantOf (someDeclines w b xs (full w)) (someGrants w b xs (full w))
   unfolding grant someDeclines someGrants
-  grant-is = by-cases (any (2 ^ w) (λ a. member (full w) a && declinesAt b xs a)) some none
-    where
-      none : any (2 ^ w) (λ a. member (full w) a && declinesAt b xs a) ≡ false
-          → grant w b xs ≡ cond (any (2 ^ w) (λ a. member (full w) a && declinesAt b xs a)) (cond (any (2 ^ w) (λ a. member (full w) a && not (declinesAt b xs a))) 2 0) 1
-      none e =
-          rw (e, all-of (2 ^ w) (λ a. not (declinesAt b xs a)) (λ a h. ap not (ap (λ (x : Bool). x && declinesAt b xs a) (sym (member-full w a h)) ∙ any-none (2 ^ w) (λ a. member (full w) a && declinesAt b xs a) e a h)))
-
-      some : any (2 ^ w) (λ a. member (full w) a && declinesAt b xs a) ≡ true
-          → grant w b xs ≡ cond (any (2 ^ w) (λ a. member (full w) a && declinesAt b xs a)) (cond (any (2 ^ w) (λ a. member (full w) a && not (declinesAt b xs a))) 2 0) 1
-      some e =
-          let found = any-some (2 ^ w) (λ a. member (full w) a && declinesAt b xs a) e in
-          let not-all = all-fails (2 ^ w) (λ a. not (declinesAt b xs a)) (found .0) (found .1) (ap not (and-right (member (full w) (found .0)) _ (found .2))) in
-          rw (e, not-all) (ap {B = ℕ} (λ (t : Bool). cond t 0 2) (every (any (2 ^ w) (λ a. member (full w) a && not (declinesAt b xs a))) refl) ∙ flip (any (2 ^ w) (λ a. member (full w) a && not (declinesAt b xs a))))
-        where
-          flip : (t : Bool) → _≡_ {A = ℕ} (cond (not t) 0 2) (cond t 2 0)
-          flip true = refl
-          flip false = refl
-
-          every : (t : Bool) → any (2 ^ w) (λ a. member (full w) a && not (declinesAt b xs a)) ≡ t → all (2 ^ w) (declinesAt b xs) ≡ not (any (2 ^ w) (λ a. member (full w) a && not (declinesAt b xs a)))
-          every true q =
-              let g = any-some (2 ^ w) (λ a. member (full w) a && not (declinesAt b xs a)) q in
-              rw q (all-fails (2 ^ w) (declinesAt b xs) (g .0) (g .1) (not-true _ (and-right (member (full w) (g .0)) _ (g .2))))
-          every false q =
-              rw q (all-of (2 ^ w) (declinesAt b xs) (λ a h. not-false _ (ap (λ (x : Bool). x && not (declinesAt b xs a)) (sym (member-full w a h)) ∙ any-none (2 ^ w) (λ a. member (full w) a && not (declinesAt b xs a)) q a h)))
+  grant-is =
+      rw (every (λ a. not (declinesAt b xs a)) (declinesAt b xs) (λ a. refl), every (declinesAt b xs) (λ a. not (declinesAt b xs a)) (λ a. sym (Bool·not-not _)))
+      (cond-not (any (2 ^ w) (λ a. member (full w) a && declinesAt b xs a)) 1 _
+      ∙ ap (λ (n : ℕ). cond (any (2 ^ w) (λ a. member (full w) a && declinesAt b xs a)) n 1) (cond-not (any (2 ^ w) (λ a. member (full w) a && not (declinesAt b xs a))) 0 2))

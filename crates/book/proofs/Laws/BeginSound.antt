@@ -255,10 +255,6 @@ module _ (w : ℕ) (b : Book) (sound : Sound w b) (t : Shaped w b) (xs : List St
       (λ z. rw (begin-item w b sound t xs j h, itemTouched j (itemAt b j) z) (touchedFree j z m none))
       (λ z. rw (begin-item w b sound t xs j h, itemElse j (itemAt b j) z) (none j h))
 
-  past : (i : ℕ) → b .count ≤ i → itemAt c i ≡ itemAt b i
-  unfolding begun
-  past i h = past-rows (beginItem w b xs) voidItem (b .count) (b .items) i h
-
   -- ---- open transactions
 
   rowNew : OpenRow (b .districts) n new
@@ -311,10 +307,6 @@ module _ (w : ℕ) (b : Book) (sound : Sound w b) (t : Shaped w b) (xs : List St
 
   -- ---- the book
 
-  pastRecords : (e : ℕ) → b .districts ≤ e → recordAt c e ≡ recordAt b e
-  unfolding begun
-  pastRecords e h = past-rows (λ d r. cond (touchesDistrict b xs d) (beginRecord n) r) noRecord (b .districts) (b .records) e h
-
   pub begin-but : SoundBut w (begun w b xs)
   unfolding begun
   begin-but = record {
@@ -327,8 +319,8 @@ module _ (w : ℕ) (b : Book) (sound : Sound w b) (t : Shaped w b) (xs : List St
     items = items;
     opens = rows;
     differ = differ;
-    pastDistricts = λ e h k. pastRecords e k ∙ s .pastDistricts e h k;
-    pastItems = λ i h k. past i k ∙ s .pastItems i h k;
+    pastDistricts = λ e h k. past-rows _ noRecord (b .districts) (b .records) e k ∙ s .pastDistricts e h k;
+    pastItems = λ i h k. past-rows _ voidItem (b .count) (b .items) i k ∙ s .pastItems i h k;
     free = λ m h k. let u = stillFree m k in other m (u .0) ∙ s .free m h (u .1);
     freeUnused = λ m h k i a. free i a m (s .freeUnused m h (stillFree m k .1));
   }

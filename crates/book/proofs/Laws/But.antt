@@ -197,9 +197,13 @@ seen-at b c q e o opens seen m =
     (λ z. rw (opens m, z, eqb-true m q z) seen)
     (λ z. seen-same e (openAt b m) (openAt c m) (opens m ∙ rw z))
 
+-- a row set to o, of which something stays: it stays at every place
+pub row-alike : {A : Type 0} (f : Open → A) (b : Book) (q : ℕ) (o : Open) → f o ≡ f (openAt b q) → (m : ℕ) → f (cond (eqb m q) o (openAt b m)) ≡ f (openAt b m)
+row-alike f b q o e m = by-cases (eqb m q) (λ z. rw (z, eqb-true m q z) e) (λ z. rw z)
+
 -- a row set to itself
 pub row-own : (b : Book) (q m : ℕ) → openAt b m ≡ cond (eqb m q) (openAt b q) (openAt b m)
-row-own b q m = by-cases (eqb m q) (λ z. rw (z, eqb-true m q z)) (λ z. rw z)
+row-own b q m = sym (row-alike (λ o. o) b q (openAt b q) refl m)
 
 pub district-stays : (w d q u : ℕ) (o p : Open) (r : Record) → DistrictRow w d q o r → (idle r ≡ false → u ≡ q) → (idle r ≡ false → Seen d o p) → DistrictRow w d u p r
 district-stays w d q u o p r f place seen = record {

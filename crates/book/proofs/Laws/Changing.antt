@@ -1,17 +1,17 @@
 -- A book after an event on an open transaction: the transaction keeps its number and its place, every other place stays. What each row must then be for the book to be sound.
-use mathlib.Core.Path.{_≡_, sym, _∙_, ap}
+use mathlib.Core.Path.{_≡_, sym, _∙_}
 use mathlib.Core.Bool.{true, false, cond, true≢false}
 use mathlib.Core.List.{List}
 use Prim.Native.Nat.{ℕ, _≤_, _<_}
 use lib.Dec.{eqb}
-use borrow.Author.Tests.{eqb-true, ne-eqb}
+use borrow.Author.Tests.{ne-eqb}
 use Rattle.conditions.proofs.Laws.Below.{by-cases}
 use Rattle.book.specs.declared.Record.{Record}
 use Rattle.book.specs.declared.Item.{Item}
 use Rattle.book.specs.declared.Open.{Open}
 use Rattle.book.specs.declared.Book.{Book}
 use Rattle.book.specs.Book.{mostDistricts, mostItems, noRecord, noItem, recordAt, itemAt, openAt, itemOn, isOpen, placeOf, itemDepends, withRecords, withItems, withOpen}
-use Rattle.book.proofs.Laws.But.{DistrictRow, ItemRow, OpenRow, SoundBut, placeOf-same}
+use Rattle.book.proofs.Laws.But.{DistrictRow, ItemRow, OpenRow, SoundBut, placeOf-same, row-alike}
 
 -- the book with these tables
 abbrev pub withTables : Book → List Record → List Item → List Open → Book
@@ -43,10 +43,7 @@ module _ (w : ℕ) (b : Book) (s : SoundBut w b) (records : List Record) (items 
     other p e = f .opens p ∙ rw e
 
     numbers : (p : ℕ) → openAt c p .number ≡ openAt b p .number
-    numbers p =
-        by-cases (eqb p q)
-        (λ e. ap (λ (x : Open). x .number) (here p e) ∙ f .number ∙ ap (λ (m : ℕ). openAt b m .number) (sym (eqb-true p q e)))
-        (λ e. ap (λ (x : Open). x .number) (other p e))
+    numbers p = rw (f .opens p) (row-alike (λ (x : Open). x .number) b q o (f .number) p)
 
     place : (n : ℕ) → placeOf w c n ≡ placeOf w b n
     place n = placeOf-same w b c numbers n

@@ -93,7 +93,7 @@ module _ (w : ℕ) (b : Book) (s : SoundBut w b) (t : Shaped w b) where
       placeOf-kept w b c n (s .districts d h .busyOpen k) (ap (named n) (itsRow d h k))
       (λ j l. earlier n j (fate j (omega (arith, s .districts d h .busyOpen k))))
 
-  pub forget-but : SoundBut w (forget w b)
+  forget-but : SoundBut w (forget w b)
   unfolding forget itemOn
   forget-but = record {
     someDistricts = s .someDistricts;

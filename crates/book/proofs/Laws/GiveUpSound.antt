@@ -1,7 +1,7 @@
 -- Give up: sound in, sound out.
 use mathlib.Core.Path.{_≡_, refl, sym, _∙_, ap}
 use mathlib.Core.Bool.{Bool, true, false, cond, true≢false, and-true}
-use Prim.Native.Nat.{ℕ, _≤_, _<_}
+use Prim.Native.Nat.{ℕ, _<_}
 use native.Mathlib.Nat.{lt-of-lt-of-le}
 use native.Mathlib.Omega.{arith}
 use lib.Dec.{eqb}
@@ -167,10 +167,6 @@ module _ (w : ℕ) (b : Book) (sound : Sound w b) (t : Shaped w b) (n d : ℕ) (
       (settledFree _ _ x (s .items i a) j (λ e. true≢false (sym (place-open w b n p) ∙ rw e k)) (s .freeUnused j h k i a)))
       (λ z. rw (give-up-item w b sound t n d i a, itemElse x z) (s .freeUnused j h k i a))
 
-  past : (i : ℕ) → b .count ≤ i → itemAt c i ≡ itemAt b i
-  unfolding gaveUp
-  past i h = past-rows (λ i x. giveUpItem w b n d q early x) voidItem (b .count) (b .items) i h
-
   -- ---- the book
 
   pub give-up-but : SoundBut w (gaveUp w b n d)
@@ -185,7 +181,7 @@ module _ (w : ℕ) (b : Book) (sound : Sound w b) (t : Shaped w b) (n d : ℕ) (
         districts = districts;
         items = items;
         pastDistricts = λ e h k. give-up-records e ∙ rw (ne-eqb e d (λ z. omega arith)) (s .pastDistricts e h k);
-        pastItems = λ i h k. past i k ∙ s .pastItems i h k;
+        pastItems = λ i h k. past-rows _ voidItem (b .count) (b .items) i k ∙ s .pastItems i h k;
         freeUnused = freeUnused;
       })
 

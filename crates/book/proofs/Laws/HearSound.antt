@@ -1,7 +1,7 @@
 -- Hear: sound in, sound out.
 use mathlib.Core.Path.{_≡_, refl, sym, _∙_}
 use mathlib.Core.Bool.{Bool, true, false, cond, true≢false}
-use Prim.Native.Nat.{ℕ, _≤_, _<_}
+use Prim.Native.Nat.{ℕ, _<_}
 use native.Mathlib.Omega.{arith}
 use lib.Dec.{eqb}
 use lib.ListN.{length-set}
@@ -130,10 +130,6 @@ module _ (w : ℕ) (b : Book) (sound : Sound w b) (t : Shaped w b) (n d : ℕ) (
       (reduce-free-of w (b .districts) _ _ (settled x) (settledRow x z (s .items i a)) q j completed (settledFree x j (s .freeUnused j h k i a))))
       (λ z. rw (hear-item w b sound t n d i a, itemElse x z) (s .freeUnused j h k i a))
 
-  past : (i : ℕ) → b .count ≤ i → itemAt c i ≡ itemAt b i
-  unfolding heard
-  past i h = past-rows (λ i x. hearItem w b n d q completed x) voidItem (b .count) (b .items) i h
-
   -- ---- the book
 
   pub hear-but : SoundBut w (heard w b n d)
@@ -148,7 +144,7 @@ module _ (w : ℕ) (b : Book) (sound : Sound w b) (t : Shaped w b) (n d : ℕ) (
         districts = districts;
         items = items;
         pastDistricts = λ e h k. hear-records e ∙ rw (ne-eqb e d (λ z. omega arith)) (s .pastDistricts e h k);
-        pastItems = λ i h k. past i k ∙ s .pastItems i h k;
+        pastItems = λ i h k. past-rows _ voidItem (b .count) (b .items) i k ∙ s .pastItems i h k;
         freeUnused = freeUnused;
       })
 

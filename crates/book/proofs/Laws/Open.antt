@@ -1,18 +1,16 @@
 -- The all-zero book is not sound; an opened book is.
-use mathlib.Core.Path.{_≡_, refl, ap, ap₂}
-use mathlib.Core.Bool.{true, false, _||_, false≢true}
+use mathlib.Core.Path.{_≡_, refl, ap}
+use mathlib.Core.Bool.{true, false, false≢true}
 use mathlib.Core.List.{List, [], _∷_}
 use Prim.Native.Nat.{ℕ, zero, suc, _-_, _≤_, _<_}
 use native.Mathlib.Omega.{arith}
 use lib.Dec.{leb, ltb}
-use lib.IntN.{ℤ}
 use lib.ListN.{length, getD, replicate}
 use borrow.Author.Tests.{ltb-true, leb-true}
 use Rattle.conditions.proofs.Laws.Below.{and-left, and-right, by-cases, five}
-use Rattle.polyvalues.specs.Pairs.{depends, certain}
-use Rattle.polyvalues.specs.Polyvalues.{inUse, packed, sound as soundPolyvalue}
-use Rattle.polyvalues.proofs.Laws.Canon.{certain-canon}
-use Rattle.polyvalues.proofs.Laws.Depends.{free-canon}
+use Rattle.polyvalues.specs.Pairs.{certain}
+use Rattle.polyvalues.specs.Polyvalues.{sound as soundPolyvalue}
+use Rattle.polyvalues.proofs.Laws.Depends.{certain-free}
 use Rattle.polyvalues.proofs.Laws.WellFormed.{certain-well-formed}
 use Rattle.polyvalues.proofs.Laws.Packed.{inUse-packed, packed-sound}
 use Rattle.book.specs.declared.Book.{Book}
@@ -34,9 +32,6 @@ no-book-unsound w = by-cases (sound w (noBook w)) (λ e. let some : 1 ≤ 0 = te
 
 -- ---- an item when its book is opened
 
-certain-free : (w : ℕ) (v : ℤ) (q : ℕ) → depends w (inUse (packed (certain w v))) q ≡ false
-certain-free w v q = rw (inUse-packed (certain w v), certain-canon w v) (free-canon w (λ a. v) q (λ a h. refl))
-
 record Fresh (w districts : ℕ) (x : Item) : Type 0 where
   belongs : x .district < districts
   held : soundPolyvalue w (x .held) ≡ true
@@ -49,7 +44,7 @@ fresh w districts x e = record {
   belongs = ltb-true (x .district) districts (and-left (ltb (x .district) districts) _ e);
   held = packed-sound w (certain w (x .value)) (certain-well-formed w (x .value) (and-right (ltb (x .district) districts) _ e));
   same = refl;
-  free = λ q. ap₂ _||_ (certain-free w (x .value) q) (certain-free w (x .value) q);
+  free = λ q. rw (inUse-packed (certain w (x .value)), certain-free w (x .value) q);
 }
 
 good-at : (districts : ℕ) (xs : List Opening) → goodItems districts xs ≡ true → (i : ℕ) → i < length xs → goodItem districts (getD xs i noOpening) ≡ true

@@ -1,11 +1,11 @@
 -- What a program does to touched items depends on touched items alone; it changes no other; and what it gives is a value.
 use mathlib.Core.Path.{_≡_, refl, _∙_, ap}
-use mathlib.Core.Bool.{Bool, true, false, not, _&&_, _||_, cond}
+use mathlib.Core.Bool.{Bool, true, false, not, _&&_, _||_}
 use mathlib.Core.List.{List, [], _∷_}
 use Prim.Native.Nat.{ℕ, suc}
 use native.Mathlib.Omega.{arith}
 use lib.Dec.{eqb, leb}
-use lib.IntN.{ℤ, _+ℤ_}
+use lib.IntN.{ℤ}
 use borrow.Author.Tests.{eq-eqb, eqb-true, not-false}
 use Rattle.conditions.proofs.Laws.Below.{or-left, or-right, or-second, by-cases}
 use Rattle.polyvalues.specs.Values.{inRange}
@@ -27,21 +27,15 @@ unfolding names
 names-source x c = or-second (eqb (x .item) (numbered (x .operand))) _ (rw (c, eq-eqb (numbered (x .operand)) (numbered (x .operand)) refl))
 
 -- a state stays as it is at an item that a step does not name
-takes-other : (s : ℕ → ℤ) (i : ℕ) (v : ℤ) (j : ℕ) → eqb i j ≡ false → takes s i v j ≡ s j
-takes-other s i v j e = rw e
-
 pub after-other : (x : Step) (s : ℕ → ℤ) (j : ℕ) → names x j ≡ false → after x s j ≡ s j
 unfolding names after
-after-other x s j e = go (isAdd x) (isSet x) (isCopy x)
-  where
-    other : eqb (x .item) j ≡ false
-    other = or-left (eqb (x .item) j) _ e
-
-    go : (a b c : Bool) → cond a (takes s (x .item) (s (x .item) +ℤ x .operand)) (cond b (takes s (x .item) (x .operand)) (cond c (takes s (x .item) (s (numbered (x .operand)))) s)) j ≡ s j
-    go true b c = takes-other s (x .item) _ j other
-    go false true c = takes-other s (x .item) _ j other
-    go false false true = takes-other s (x .item) _ j other
-    go false false false = refl
+after-other x s j e =
+    let other : eqb (x .item) j ≡ false = or-left (eqb (x .item) j) _ e in
+    by-cases (isAdd x)
+    (λ a. rw (a, other))
+    (λ a. by-cases (isSet x)
+    (λ b. rw (a, b, other))
+    (λ b. by-cases (isCopy x) (λ c. rw (a, b, c, other)) (λ c. rw (a, b, c))))
 
 -- ---- two states that agree on a set of items
 
@@ -49,22 +43,18 @@ module _ (U : ℕ → Bool) (s t : ℕ → ℤ) (agree : (j : ℕ) → U j ≡ t
   at-item : s (x .item) ≡ t (x .item)
   at-item = agree (x .item) (inside (x .item) (names-item x))
 
-  takes-agree : (v u : ℤ) → v ≡ u → (j : ℕ) → U j ≡ true → takes s (x .item) v j ≡ takes t (x .item) u j
-  takes-agree v u e j k = rw (e, agree j k)
-
-  pub after-agree : (j : ℕ) → U j ≡ true → after x s j ≡ after x t j
+  after-agree : (j : ℕ) → U j ≡ true → after x s j ≡ after x t j
   unfolding after
-  after-agree j k = go (isAdd x) (isSet x) (isCopy x) refl
-    where
-      go : (a b c : Bool) → isCopy x ≡ c
-          → cond a (takes s (x .item) (s (x .item) +ℤ x .operand)) (cond b (takes s (x .item) (x .operand)) (cond c (takes s (x .item) (s (numbered (x .operand)))) s)) j
-          ≡ cond a (takes t (x .item) (t (x .item) +ℤ x .operand)) (cond b (takes t (x .item) (x .operand)) (cond c (takes t (x .item) (t (numbered (x .operand)))) t)) j
-      go true b c e = takes-agree _ _ (ap (λ (v : ℤ). v +ℤ x .operand) at-item) j k
-      go false true c e = takes-agree _ _ refl j k
-      go false false true e = takes-agree _ _ (agree (numbered (x .operand)) (inside (numbered (x .operand)) (names-source x e))) j k
-      go false false false e = agree j k
+  after-agree j k =
+      by-cases (isAdd x)
+      (λ a. rw (a, at-item, agree j k))
+      (λ a. by-cases (isSet x)
+      (λ b. rw (a, b, agree j k))
+      (λ b. by-cases (isCopy x)
+      (λ c. rw (a, b, c, agree (numbered (x .operand)) (inside (numbered (x .operand)) (names-source x c)), agree j k))
+      (λ c. rw (a, b, c, agree j k))))
 
-  pub declines-agree : declines x s ≡ declines x t
+  declines-agree : declines x s ≡ declines x t
   unfolding declines
   declines-agree = rw at-item
 
@@ -102,11 +92,10 @@ declined-reads xs s t agree = declined-agree (touches xs) 1 xs s t (λ j e. e) a
 -- and the touched items get the same values
 pub run-reads : (xs : List Step) (s t : ℕ → ℤ) → ((j : ℕ) → touches xs j ≡ true → s j ≡ t j) → (i : ℕ) → touches xs i ≡ true → run xs s i ≡ run xs t i
 unfolding run
-run-reads xs s t agree i k = rw (declined-reads xs s t agree) (go (eqb (declined xs t) 0))
-  where
-    go : (b : Bool) → cond b (afterAll xs s) s i ≡ cond b (afterAll xs t) t i
-    go true = afterAll-agree (touches xs) xs s t (λ j e. e) agree i k
-    go false = agree i k
+run-reads xs s t agree i k =
+    by-cases (eqb (declined xs t) 0)
+    (λ e. rw (declined-reads xs s t agree, e) (afterAll-agree (touches xs) xs s t (λ j e. e) agree i k))
+    (λ e. rw (declined-reads xs s t agree, e) (agree i k))
 
 afterAll-frame : (xs : List Step) (s : ℕ → ℤ) (i : ℕ) → touches xs i ≡ false → afterAll xs s i ≡ s i
 unfolding afterAll touches
@@ -116,11 +105,7 @@ afterAll-frame (x ∷ xs) s i e = afterAll-frame xs (after x s) i (or-right (nam
 -- an item that is not touched is unchanged
 pub run-frame : (xs : List Step) (s : ℕ → ℤ) (i : ℕ) → touches xs i ≡ false → run xs s i ≡ s i
 unfolding run
-run-frame xs s i e = go (eqb (declined xs s) 0)
-  where
-    go : (b : Bool) → cond b (afterAll xs s) s i ≡ s i
-    go true = afterAll-frame xs s i e
-    go false = refl
+run-frame xs s i e = by-cases (eqb (declined xs s) 0) (λ z. rw z (afterAll-frame xs s i e)) (λ z. rw z)
 
 -- ---- values
 
@@ -129,21 +114,20 @@ after-range : (U : ℕ → Bool) (x : Step) (s : ℕ → ℤ) → ((j : ℕ) →
     → badStep x ≡ false → declines x s ≡ false → (j : ℕ) → U j ≡ true → inRange (after x s j) ≡ true
 unfolding after declines badStep
 after-range U x s inside range good on j k =
-    go (isAdd x) refl (isSet x) refl (isCopy x) refl
+    by-cases (isAdd x)
+    (λ a.
+    let other : eqb (x .kind) 1 ≡ false = ap (λ (n : ℕ). eqb n 1) (eqb-true (x .kind) 2 a) in
+    rw a (put _ (not-false _ (rw (other, a) at on))))
+    (λ a. by-cases (isSet x)
+    (λ b.
+    let other : eqb (x .kind) 4 ≡ false = ap (λ (n : ℕ). eqb n 4) (eqb-true (x .kind) 3 b) in
+    rw (a, b) (put _ (not-false _ (rw other at (or-right (not (leb 1 (x .kind) && leb (x .kind) 4)) _ good)))))
+    (λ b. by-cases (isCopy x)
+    (λ c. rw (a, b, c) (put _ (range (numbered (x .operand)) (inside (numbered (x .operand)) (names-source x c)))))
+    (λ c. rw (a, b, c) (range j k))))
   where
     put : (v : ℤ) → inRange v ≡ true → inRange (takes s (x .item) v j) ≡ true
     put v e = by-cases (eqb (x .item) j) (λ m. rw (m, e)) (λ m. rw (m, range j k))
-
-    go : (a : Bool) → isAdd x ≡ a → (b : Bool) → isSet x ≡ b → (c : Bool) → isCopy x ≡ c
-        → inRange (cond a (takes s (x .item) (s (x .item) +ℤ x .operand)) (cond b (takes s (x .item) (x .operand)) (cond c (takes s (x .item) (s (numbered (x .operand)))) s)) j) ≡ true
-    go true e b f c g =
-        let other : eqb (x .kind) 1 ≡ false = ap (λ (n : ℕ). eqb n 1) (eqb-true (x .kind) 2 e) in
-        put _ (not-false _ (rw (other, e) at on))
-    go false e true f c g =
-        let other : eqb (x .kind) 4 ≡ false = ap (λ (n : ℕ). eqb n 4) (eqb-true (x .kind) 3 f) in
-        put _ (not-false _ (rw other at (or-right (not (leb 1 (x .kind) && leb (x .kind) 4)) _ good)))
-    go false e false f true g = put _ (range (numbered (x .operand)) (inside (numbered (x .operand)) (names-source x g)))
-    go false e false f false g = range j k
 
 afterAll-range : (U : ℕ → Bool) (k : ℕ) (xs : List Step) (s : ℕ → ℤ) → ((j : ℕ) → touches xs j ≡ true → U j ≡ true)
     → ((j : ℕ) → U j ≡ true → inRange (s j) ≡ true) → someStep badStep xs ≡ false → declinedFrom (suc k) xs s ≡ 0 → (i : ℕ) → U i ≡ true → inRange (afterAll xs s i) ≡ true

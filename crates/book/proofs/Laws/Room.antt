@@ -32,9 +32,10 @@ occurs-either u ps qs rs f g e = by-cases (occurs u ps) f (λ n. g (rw (occurs-a
 
 -- ---- how many there are together
 
-pub together-swap : (ps qs : List Pair) → together qs ps ≤ together ps qs
+-- few together, in either order
+pub together-swap : (ps qs : List Pair) → together ps qs ≤ mostPairs → together qs ps ≤ mostPairs
 unfolding together
-together-swap ps qs = different-le (qs ++ ps) (ps ++ qs) (λ u. occurs-either u qs ps (ps ++ qs) (occurs-second u ps qs) (occurs-first u ps qs))
+together-swap ps qs few = omega (arith, few, different-le (qs ++ ps) (ps ++ qs) (λ u. occurs-either u qs ps (ps ++ qs) (occurs-second u ps qs) (occurs-first u ps qs)))
 
 -- a list together with itself
 pub together-self : (w : ℕ) (ps : List Pair) → WellFormed w ps → together ps ps ≤ mostPairs
@@ -55,7 +56,7 @@ together-reduce w q o ps qs =
 module _ (w : ℕ) (b : Book) (s : Sound w b) (i : ℕ) (h : i < b .count) where
   -- giving up: pending and held are few together
   pub split-together : together (inUse (itemAt b i .pending)) (inUse (itemAt b i .held)) ≤ mostPairs
-  split-together = omega (arith, s .fewTogether i h, together-swap (inUse (itemAt b i .held)) (inUse (itemAt b i .pending)))
+  split-together = together-swap (inUse (itemAt b i .held)) (inUse (itemAt b i .pending)) (s .fewTogether i h)
 
   -- giving up has room for the pending value where the transaction at q completes and the held value where it aborts
   pub give-up-room : (q : ℕ) → length (select w q (inUse (itemAt b i .pending)) (inUse (itemAt b i .held))) ≤ mostPairs

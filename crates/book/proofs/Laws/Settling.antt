@@ -58,7 +58,7 @@ module _ (w districts n q : ℕ) (x : Item) (f : ItemRow w districts n q x) wher
   split-formed : (p : ℕ) → WellFormed w (select w p (inUse (x .pending)) (inUse (x .held)))
   split-formed p =
       select-well-formed w p (inUse (x .pending)) (inUse (x .held)) pending-formed held-formed
-      (omega (arith, f .fewTogether, together-swap (inUse (x .held)) (inUse (x .pending))))
+      (together-swap (inUse (x .held)) (inUse (x .pending)) (f .fewTogether))
 
   -- the split is a polyvalue
   pub split-sound : (p : ℕ) → soundPolyvalue w (split w p x .held) ≡ true
@@ -77,7 +77,7 @@ module _ (w districts n q : ℕ) (x : Item) (f : ItemRow w districts n q x) wher
       (select-depends-not w p (inUse (x .pending)) (inUse (x .held)) (pending-formed .complete) (held-formed .complete) j apart (both .1) (both .0)) in
       depends-neither w (split w p x) j free free
 
-  pub reduce-held-sound : (p : ℕ) (o : Bool) → soundPolyvalue w (reduceItem w p o x .held) ≡ true
+  reduce-held-sound : (p : ℕ) (o : Bool) → soundPolyvalue w (reduceItem w p o x .held) ≡ true
   unfolding reduceItem
   reduce-held-sound p o = packed-sound w (reduce w p o (inUse (x .held))) (reduce-well-formed w p o (inUse (x .held)) held-formed)
 

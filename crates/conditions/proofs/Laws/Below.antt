@@ -1,6 +1,6 @@
 -- Tests that hold together, and each, any, the lowest, and all by rising number, over the numbers below k.
 use mathlib.Core.Path.{_≡_, refl, sym, ap, ap₂, _∙_}
-use mathlib.Core.Bool.{Bool, true, false, _&&_, _||_, cond, and-true, or-true, and-assoc, true≢false, false≢true}
+use mathlib.Core.Bool.{Bool, true, false, not, _&&_, _||_, cond, and-true, or-true, and-assoc, true≢false, false≢true}
 use Prim.Native.Nat.{ℕ, zero, suc, _+_, _≤_, _<_}
 use native.Mathlib.Nat.{add-zero, add-suc}
 use native.Mathlib.Omega.{arith}
@@ -41,6 +41,11 @@ by-cases false t f = f refl
 pub cond-same : {A : Type 0} (b : Bool) (x : A) → cond b x x ≡ x
 cond-same true x = refl
 cond-same false x = refl
+
+-- a test and its negation
+pub cond-not : {A : Type 0} (b : Bool) (x y : A) → cond (not b) x y ≡ cond b y x
+cond-not true x y = refl
+cond-not false x y = refl
 
 -- ---- tests that hold together
 

@@ -2,13 +2,13 @@
 use mathlib.Core.Path.{_≡_, refl, sym, ap, _∙_}
 use mathlib.Core.Bool.{Bool, true, false, not, _&&_, _||_, cond, true≢false}
 use Prim.Native.Nat.{ℕ, zero, suc, _+_, _-_, _*_, _/_, _%_, _^_, _≤_, _<_, min, max}
-use native.Mathlib.Nat.{mod-lt, div-div-eq-div-mul, pow-succ', zero-lt-suc, div-one, div-eq-of-lt, lt-of-lt-of-le}
+use native.Mathlib.Nat.{mod-lt, div-div-eq-div-mul, pow-succ', zero-lt-suc, div-one, div-eq-of-lt, lt-of-lt-of-le, one-mul}
 use native.Mathlib.Omega.{arith}
 use native.Mathlib.Numerals.{add-one}
 use native.Mathlib.Decide.{decLt}
 use lib.Count.{under}
 use lib.Dec.{eqb}
-use lib.Pow.{pow-mono, shr-shr, shl-shr, field, mod-mod-pow}
+use lib.Pow.{pow-mono, shr-shr, shl-exact, shl-shr, field, mod-mod-pow}
 use lib.Bits.{bitAnd, bitOr, and-step, or-step, and-shr, or-shr, shifted-even, shifted-half, and-mask}
 use Rattle.conditions.specs.Sets.{digit, setOf, odd, member}
 use Rattle.conditions.proofs.Laws.Below.{by-cases}
@@ -201,6 +201,10 @@ member-shl-below a (suc s) zero h =
     member-zero (a * 2 ^ suc s) ∙ odd-same (a * 2 ^ suc s) 0 e ∙ odd-digit false
 member-shl-below a (suc s) (suc n) h =
     member-suc (a * 2 ^ suc s) n ∙ ap (λ (m : ℕ). member m n) (shifted-half a s) ∙ member-shl-below a s n (omega arith)
+
+-- `1 << i` in k bits
+pub one-shl : (k i : ℕ) → i < k → 1 * 2 ^ i % 2 ^ k ≡ 2 ^ i
+one-shl k i h = shl-exact {a = 1} 1 i k (omega arith) (omega arith) ∙ one-mul (2 ^ i)
 
 -- what is cut to k bits keeps the members below k
 pub member-mod : (k a n : ℕ) → n < k → member (a % 2 ^ k) n ≡ member a n

@@ -12,11 +12,11 @@ use Rattle.conditions.proofs.Laws.Places.{place-lt}
 use Rattle.conditions.proofs.Laws.Conditions.{not-depends, unchanged}
 use Rattle.polyvalues.specs.declared.polyvalue.Pair.{Pair}
 use Rattle.polyvalues.specs.Values.{equal}
-use Rattle.polyvalues.specs.Pairs.{assignments, at, depends}
+use Rattle.polyvalues.specs.Pairs.{assignments, at, depends, certain}
 use Rattle.polyvalues.specs.Polyvalues.{each, rises, Complete}
 use Rattle.polyvalues.specs.Simplify.{canon}
 use Rattle.polyvalues.proofs.Laws.Holds.{holds, head-holds, tail-holds, rises-tail, holds-at}
-use Rattle.polyvalues.proofs.Laws.Canon.{at-canon, canon-complete}
+use Rattle.polyvalues.proofs.Laws.Canon.{at-canon, canon-complete, certain-canon}
 
 -- its condition does not depend on place i
 abbrev pub free : ℕ → ℕ → Pair → Bool
@@ -64,3 +64,7 @@ pub free-canon : (w : ℕ) (f : ℕ → ℤ) (i : ℕ) → ((a : ℕ) → a < 2 
 free-canon w f i e =
     free-at w (canon w f) i (canon-complete w f)
     (λ a h. at-canon w f _ (place-lt w a i true) ∙ e a h ∙ sym (at-canon w f _ (place-lt w a i false)))
+
+-- a pair that always applies
+pub certain-free : (w : ℕ) (v : ℤ) (i : ℕ) → depends w (certain w v) i ≡ false
+certain-free w v i = rw (certain-canon w v) (free-canon w (λ a. v) i (λ a h. refl))

@@ -12,7 +12,8 @@ use Rattle.conditions.proofs.Laws.Below.{all-more, all-fails}
 use Rattle.book.specs.Book.{mostItems}
 use Rattle.book.specs.SoundTest.{soundItem, sound}
 use Rattle.book.specs.Tables.{TablesOf}
-use Rattle.book.proofs.Depended.{DependedBy, none-depended, depended-more, all-depended}
+use Rattle.book.proofs.Depended.{DependedBy, depended-more, all-depended}
+use Rattle.book.proofs.Loops.{gathered-none}
 use Rattle.book.proofs.Testing.{few-rows, number-last, item-row, item-past}
 use Rattle.book.proofs.Book.is_sound.Statement.{statement}
 use Rattle.book.proofs.Book.is_sound.Tie as tie
@@ -38,7 +39,7 @@ returns c = rw (sym (c .before .sound-counts .ensures) ∙ not-true _ (c .if1 .t
 
 loop-holds : tie.Need-loop-holds Inv-loop μ-loop Inv-loop2 μ-loop2
 unfolding all
-loop-holds c = (omega arith, refl, none-depended width (c .before .before .before .before .args .t1))
+loop-holds c = (omega arith, refl, gathered-none width _)
 
 mul-x : tie.Need-mul-x Inv-loop μ-loop Inv-loop2 μ-loop2
 mul-x c = record { fits = omega (arith, few-rows (c .before .before .before .before .before .before .args .t1 .districts) (c .before .before .before .before .before .before .args .t1 .count) (c .before .before .before .before .before .sound-counts .ensures) (c .before .before .before .before .if1 .left) .1) }

@@ -6,10 +6,11 @@ use Prim.Native.Nat.{_≤_, _-_}
 use native.Mathlib.Omega.{arith}
 use Rattle.conditions.specs.Places.{places}
 use Rattle.book.specs.Answers.{firstOf}
-use Rattle.book.specs.Book.{freePlace}
+use Rattle.book.specs.Book.{mostDistricts, freePlace}
 use Rattle.book.specs.States.{stepsOf}
 use Rattle.book.proofs.Laws.Sound.{test-sound}
-use Rattle.book.proofs.Touching.{TouchedBy, none-touched, touched-more, all-touched, touched-busy}
+use Rattle.book.proofs.Loops.{gathered-none, gathered-more}
+use Rattle.book.proofs.Touching.{TouchedBy, all-touched, touched-busy}
 use Rattle.book.proofs.Beginning.{begin-later}
 use Rattle.book.proofs.begin.begin_program.Statement.{statement}
 use Rattle.book.proofs.begin.begin_program.Tie as tie
@@ -21,7 +22,7 @@ abbrev μ-loop : tie.MeasureT-loop
 μ-loop p b count set₀ i₀ set i = count - i
 
 loop-holds : tie.Need-loop-holds Inv-loop μ-loop
-loop-holds c = (omega arith, none-touched (c .args .t1) (stepsOf (c .args .p)))
+loop-holds c = (omega arith, (omega arith, gathered-none mostDistricts _))
 
 mul-district : tie.Need-mul-district Inv-loop μ-loop
 mul-district c = record { fits = omega (arith, test-sound places _ (c .before .before .pre .0) .fewItems) }
@@ -42,7 +43,7 @@ loop-less : tie.Need-loop-less Inv-loop μ-loop
 loop-less c = omega arith
 
 loop-again : tie.Need-loop-again Inv-loop μ-loop
-loop-again c = (omega arith, touched-more (c .before .before .before .before .args .t1) (stepsOf (c .before .before .before .before .args .p)) (c .before .before .before .loop .i) (c .before .before .before .loop .set) (c .before .before .before .loop .inv .1) (omega arith) (c .before .touches .ensures) (c .with-district .ensures))
+loop-again c = (omega arith, (omega arith, gathered-more mostDistricts _ (c .before .before .before .loop .i) (c .before .before .before .loop .set) _ (c .before .before .before .loop .inv .1 .1) (rw (c .before .touches .ensures) at (c .with-district .ensures))))
 
 some-busy-requires : tie.Need-some-busy-requires Inv-loop μ-loop
 some-busy-requires c κs = test-sound places (c .before .before .before .args .t1) (c .before .before .before .pre .0) .fewDistricts

@@ -8,7 +8,8 @@ use Rattle.conditions.specs.Places.{places as width}
 use Rattle.book.specs.declared.Open.{Open}
 use Rattle.book.specs.Book.{withOpen}
 use Rattle.book.specs.Forget.{forget}
-use Rattle.book.proofs.Depended.{DependedBy, none-depended, depended-more, all-depended}
+use Rattle.book.proofs.Depended.{DependedBy, depended-more, all-depended}
+use Rattle.book.proofs.Loops.{gathered-none}
 use Rattle.book.proofs.forget.forget.Statement.{statement}
 use Rattle.book.proofs.forget.forget.Tie as tie
 
@@ -19,7 +20,7 @@ abbrev μ-loop : tie.MeasureT-loop
 μ-loop b count depended₀ i₀ depended i = count - i
 
 loop-holds : tie.Need-loop-holds Inv-loop μ-loop
-loop-holds c = (omega arith, none-depended width (c .args .t1))
+loop-holds c = (omega arith, gathered-none width _)
 
 mul-x : tie.Need-mul-x Inv-loop μ-loop
 mul-x c = record { fits = omega (arith, c .before .before .pre .1) }

@@ -2,7 +2,8 @@
 use borrow.Author.Needs.{needs}
 use Prim.Native.Nat.{_^_}
 use Rattle.conditions.specs.Places.{places}
-use Rattle.conditions.proofs.Masks.{one-shl, shift-lt}
+use Rattle.conditions.proofs.Laws.Sets.{one-shl}
+use Rattle.conditions.proofs.Masks.{shift-lt}
 use Rattle.conditions.proofs.Skipping.{half-some, leaves-both, leaves-high, leaves-low}
 use Rattle.conditions.proofs.product.narrowed.Statement.{statement}
 use Rattle.conditions.proofs.product.narrowed.Tie as tie

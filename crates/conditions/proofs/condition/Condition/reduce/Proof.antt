@@ -4,7 +4,8 @@ use mathlib.Core.Path.{sym, ap, _∙_}
 use Prim.Native.Nat.{_^_}
 use Rattle.conditions.specs.Places.{places}
 use Rattle.conditions.specs.Conditions.{reduced}
-use Rattle.conditions.proofs.Masks.{reduce-completed, reduce-aborted, one-shl, shift-lt}
+use Rattle.conditions.proofs.Laws.Sets.{one-shl}
+use Rattle.conditions.proofs.Masks.{reduce-completed, reduce-aborted, shift-lt}
 use Rattle.conditions.proofs.Laws.Conditions.{reduced-past}
 use Rattle.conditions.proofs.condition.Condition.reduce.Statement.{statement}
 use Rattle.conditions.proofs.condition.Condition.reduce.Tie as tie
