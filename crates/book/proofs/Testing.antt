@@ -25,7 +25,7 @@ use Rattle.book.specs.declared.Record.{Record}
 use Rattle.book.specs.declared.Item.{Item}
 use Rattle.book.specs.declared.Open.{Open}
 use Rattle.book.specs.declared.Book.{Book}
-use Rattle.book.specs.Book.{mostDistricts, mostItems, lastNumber, noRecord, noItem, noOpen, recordOn, itemAt, itemOn, named, placeOf, itemDepends}
+use Rattle.book.specs.Book.{mostDistricts, mostItems, goodCounts, lastNumber, noRecord, noItem, noOpen, recordOn, itemAt, itemOn, named, placeOf, itemDepends}
 use Rattle.book.specs.SoundTest.{implies, sameCondition, samePolyvalue, sameItem, soundPending, soundRow, soundItem}
 use Rattle.book.proofs.Laws.Same.{same-paired, same-polyvalue}
 use Rattle.book.proofs.Laws.Room.{together-self}
@@ -124,7 +124,7 @@ unfolding soundItem
 item-past w b h = rw (le-ltb _ _ h)
 
 -- the counts are sound: there are not too many districts and items
-pub few-rows : (d n : ℕ) {r : Bool} → r ≡ (leb 1 d && leb d mostDistricts && leb 1 n && leb n mostItems) → not r ≡ false → (d ≤ mostDistricts) × (n ≤ mostItems)
+pub few-rows : (d n : ℕ) {r : Bool} → r ≡ goodCounts d n → not r ≡ false → (d ≤ mostDistricts) × (n ≤ mostItems)
 few-rows d n {r} e f =
     let fit = sym e ∙ not-false r f in
     (leb-true d mostDistricts (and-right (leb 1 d) _ (and-left _ (leb 1 n) (and-left _ (leb n mostItems) fit))), leb-true n mostItems (and-right (leb 1 d && leb d mostDistricts && leb 1 n) _ fit))

@@ -2,7 +2,7 @@
 use mathlib.Core.Bool.{Bool, true, not, _&&_, _||_, cond}
 use mathlib.Core.List.{List, []}
 use Prim.Native.Nat.{ℕ}
-use lib.Dec.{eqb}
+use lib.Dec.{eqb, leb}
 use lib.ListN.{getD, replicate}
 use Rattle.conditions.specs.Below.{any, first}
 use Rattle.conditions.specs.Places.{withPlace}
@@ -21,6 +21,10 @@ mostDistricts = 8
 -- "1 to 32 items"
 abbrev pub mostItems : ℕ
 mostItems = 32
+
+-- "1 to 8 districts, 1 to 32 items": so many districts, and so many items
+abbrev pub goodCounts : ℕ → ℕ → Bool
+goodCounts districts items = leb 1 districts && leb districts mostDistricts && leb 1 items && leb items mostItems
 
 -- "Numbers are given 1, 2, 3 up to 65,535."
 abbrev pub lastNumber : ℕ

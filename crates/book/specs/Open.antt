@@ -3,7 +3,7 @@
 use mathlib.Core.Bool.{Bool, _&&_, cond}
 use mathlib.Core.List.{List, _++_, map}
 use Prim.Native.Nat.{ℕ, _-_}
-use lib.Dec.{leb, ltb}
+use lib.Dec.{ltb}
 use lib.IntN.{pos}
 use lib.ListN.{length, replicate}
 use Rattle.polyvalues.specs.declared.polyvalue.Polyvalue.{Polyvalue}
@@ -13,7 +13,7 @@ use Rattle.polyvalues.specs.Polyvalues.{each, packed}
 use Rattle.book.specs.declared.Book.{Book}
 use Rattle.book.specs.declared.Item.{Item}
 use Rattle.book.specs.declared.Opening.{Opening}
-use Rattle.book.specs.Book.{mostDistricts, mostItems, noRecord, noItem, noOpen, noBook}
+use Rattle.book.specs.Book.{mostDistricts, mostItems, goodCounts, noRecord, noItem, noOpen, noBook}
 
 -- an opening past the count
 abbrev pub noOpening : Opening
@@ -27,10 +27,9 @@ goodItem districts x = ltb (x .district) districts && inRange (x .value)
 abbrev pub goodItems : ℕ → List Opening → Bool
 goodItems districts xs = each (goodItem districts) xs
 
--- "1 to 8 districts, 1 to 32 items"
+-- "1 to 8 districts, 1 to 32 items", each item good
 unfoldable pub goodOpening : ℕ → List Opening → Bool
-goodOpening districts xs =
-    leb 1 districts && leb districts mostDistricts && leb 1 (length xs) && leb (length xs) mostItems && goodItems districts xs
+goodOpening districts xs = goodCounts districts (length xs) && goodItems districts xs
 
 -- an item when its book is opened
 unfoldable pub openedItem : ℕ → Opening → Item

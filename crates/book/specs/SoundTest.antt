@@ -14,7 +14,7 @@ use Rattle.book.specs.declared.Record.{Record}
 use Rattle.book.specs.declared.Item.{Item}
 use Rattle.book.specs.declared.Open.{Open}
 use Rattle.book.specs.declared.Book.{Book}
-use Rattle.book.specs.Book.{mostDistricts, mostItems, lastNumber, noItem, recordAt, itemAt, openAt, idle, waiting, itemOn, isOpen, placeOf, itemDepends, someDepends}
+use Rattle.book.specs.Book.{mostDistricts, mostItems, goodCounts, lastNumber, noItem, recordAt, itemAt, openAt, idle, waiting, itemOn, isOpen, placeOf, itemDepends, someDepends}
 use Rattle.book.specs.Forget.{kept}
 
 -- a test that matters only where another holds
@@ -110,5 +110,4 @@ soundPlace w b q =
 -- the counts, the last number, then every row
 unfoldable pub sound : ℕ → Book → Bool
 sound w b =
-    leb 1 (b .districts) && leb (b .districts) mostDistricts && leb 1 (b .count) && leb (b .count) mostItems && leb (b .last .0) lastNumber
-    && all mostDistricts (soundDistrict w b) && all mostItems (soundItem w b) && all w (soundPlace w b)
+    goodCounts (b .districts) (b .count) && leb (b .last .0) lastNumber && all mostDistricts (soundDistrict w b) && all mostItems (soundItem w b) && all w (soundPlace w b)

@@ -30,9 +30,9 @@ use polyvalues::Pair;
 use polyvalues::Polyvalue;
 
 // A block of assignments, and the state that the program is run on under each of them.
-pub struct Alternative {
-    pub condition: Condition,
-    pub state: State,
+struct Alternative {
+    condition: Condition,
+    state: State,
 }
 
 impl Alternative {
@@ -50,7 +50,7 @@ impl Alternative {
 }
 
 // The block of the assignment, and the held values that it chooses.
-pub(crate) fn alternative_under(b: Book, p: Program, assignment: usize) -> Alternative
+fn alternative_under(b: Book, p: Program, assignment: usize) -> Alternative
     requires { ⌜ b .count ≤ mostItems ⌝ }
     ensures { λ r. ⌜ number (r .condition) ≡ block places b (stepsOf p) assignment ⌝ }
     ensures { λ r. ⌜ StartsAs b (stepsOf p) assignment (b .count) (r .state) ⌝ }
@@ -182,11 +182,7 @@ impl Worked {
 fn nothing_worked() -> Worked
     ensures { λ r. ⌜ r ≡ nothingWorked ⌝ }
 {
-    let none = Polyvalue {
-        count: 0,
-        values: [0; PAIRS],
-        conditions: [Condition::EMPTY; PAIRS],
-    };
+    let none = Polyvalue::nothing();
     Worked {
         fits: true,
         declines: false,

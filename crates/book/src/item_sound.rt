@@ -1,11 +1,10 @@
 // Whether an item of a book is sound: its polyvalues, and what it depends on.
 ghost use mathlib.Core.Path.{_≡_};
 ghost use mathlib.Core.Bool.{not, _&&_};
-ghost use mathlib.Core.List.{[]};
 ghost use lib.Dec.{leb};
 ghost use Rattle.conditions.specs.Sets.{setOf};
 ghost use Rattle.conditions.specs.Places.{places as Places·places};
-ghost use Rattle.polyvalues.specs.Polyvalues.{mostPairs, inUse, packed, sound as soundPolyvalue};
+ghost use Rattle.polyvalues.specs.Polyvalues.{mostPairs, inUse, sound as soundPolyvalue};
 ghost use Rattle.polyvalues.specs.Operations.{together};
 ghost use Rattle.book.specs.declared.Book.{Book};
 ghost use Rattle.book.specs.Book.{noItem, placeOf, itemDepends};
@@ -36,13 +35,6 @@ fn same_polyvalue(q: Polyvalue, other: Polyvalue) -> bool
     rows.same(others)
 }
 
-// Whether a polyvalue holds zeros.
-fn zero_polyvalue(q: Polyvalue) -> bool
-    ensures { λ r. ⌜ r ≡ samePolyvalue q (packed []) ⌝ }
-{
-    q.is_nothing()
-}
-
 // Whether an item holds zeros.
 pub(crate) fn zero_row(x: Item) -> bool
     ensures { λ r. ⌜ r ≡ sameItem x noItem ⌝ }
@@ -50,12 +42,10 @@ pub(crate) fn zero_row(x: Item) -> bool
     if x.district != 0 {
         return false;
     }
-    let held = x.held;
-    if !zero_polyvalue(held) {
+    if !x.held.is_nothing() {
         return false;
     }
-    let pending = x.pending;
-    zero_polyvalue(pending)
+    x.pending.is_nothing()
 }
 
 // Whether an item of an idle district is sound: pending equals held, and so one look at held tells of

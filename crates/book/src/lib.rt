@@ -61,9 +61,9 @@ pub struct Open {
 pub struct Book {
     pub last: TransactionNumber,
     pub districts: usize,
-    pub records: [Record; 8],
+    pub records: [Record; DISTRICTS],
     pub count: usize,
-    pub items: [Item; 32],
+    pub items: [Item; ITEMS],
     pub open: [Open; PLACES],
 }
 

@@ -11,13 +11,12 @@ use crate::Book;
 use crate::Item;
 use crate::Opening;
 use crate::Record;
+use crate::sound::good_counts;
 use crate::tables::DISTRICTS;
 use crate::tables::FREE;
 use crate::tables::ITEMS;
-use conditions::Condition;
 use conditions::PLACES;
 use conditions::TransactionNumber;
-use polyvalues::PAIRS;
 use polyvalues::Polyvalue;
 use polyvalues::in_range;
 
@@ -28,14 +27,10 @@ pub struct Openings {
 }
 
 // The row of an item that holds zeros.
-pub(crate) fn zero_item() -> Item
+fn zero_item() -> Item
     ensures { λ r. ⌜ r ≡ noItem ⌝ }
 {
-    let zero = Polyvalue {
-        count: 0,
-        values: [0; PAIRS],
-        conditions: [Condition::EMPTY; PAIRS],
-    };
+    let zero = Polyvalue::nothing();
     Item {
         district: 0,
         held: zero,
@@ -112,13 +107,7 @@ impl Openings {
         requires { ⌜ self .count ≤ mostItems ⌝ }
         ensures { λ r. ⌜ r ≡ goodOpening districts (openingsOf self) ⌝ }
     {
-        if districts < 1 {
-            return false;
-        }
-        if DISTRICTS < districts {
-            return false;
-        }
-        if self.count < 1 {
+        if !good_counts(districts, self.count) {
             return false;
         }
         self.are_good(districts)

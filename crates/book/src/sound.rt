@@ -1,9 +1,7 @@
 // Whether a book that is handed in is sound: the paragraph of document 01, row by row.
 ghost use mathlib.Core.Path.{_≡_};
-ghost use mathlib.Core.Bool.{_&&_};
-ghost use lib.Dec.{leb};
 ghost use Rattle.conditions.specs.Places.{places as Places·places};
-ghost use Rattle.book.specs.Book.{mostDistricts, mostItems};
+ghost use Rattle.book.specs.Book.{goodCounts};
 ghost use Rattle.book.specs.SoundTest.{sound};
 use crate::Book;
 use crate::district_sound::sound_districts;
@@ -15,9 +13,9 @@ use crate::tables::ITEMS;
 use crate::tables::Tables;
 use crate::tables::places_of;
 
-// Whether a book has as many districts and items as it may have.
-fn sound_counts(districts: usize, count: usize) -> bool
-    ensures { λ r. ⌜ r ≡ (leb 1 districts && leb districts mostDistricts && leb 1 count && leb count mostItems) ⌝ }
+// Whether a book may have so many districts and items.
+pub(crate) fn good_counts(districts: usize, count: usize) -> bool
+    ensures { λ r. ⌜ r ≡ goodCounts districts count ⌝ }
 {
     if districts < 1 {
         return false;
@@ -39,7 +37,7 @@ impl Book {
     {
         let count = self.count;
         let districts = self.districts;
-        if !sound_counts(districts, count) {
+        if !good_counts(districts, count) {
             return false;
         }
         let records = self.records;

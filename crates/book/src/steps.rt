@@ -1,6 +1,5 @@
 // A step of a program: what is wrong with it, and which items it names.
 ghost use mathlib.Core.Path.{_≡_};
-ghost use Rattle.polyvalues.specs.Values.{inRange};
 ghost use Rattle.book.specs.Programs.{numbered, names};
 ghost use Rattle.book.specs.Begin.{badStep, inTable, outside};
 use crate::Step;
@@ -36,13 +35,6 @@ fn in_table(operand: i16, count: usize) -> bool
 }
 
 impl Step {
-    // Whether its operand may be a value.
-    fn in_range(self) -> bool
-        ensures { λ r. ⌜ r ≡ inRange (self .operand) ⌝ }
-    {
-        in_range(self.operand as i32)
-    }
-
     // Whether its kind is unknown, or its operand no value where one is asked.
     pub(crate) fn is_bad(self) -> bool
         ensures { λ r. ⌜ r ≡ badStep self ⌝ }
@@ -57,7 +49,7 @@ impl Step {
         if kind == COPY {
             return false;
         }
-        !self.in_range()
+        !in_range(self.operand as i32)
     }
 
     // Whether it names an item that is not in the table.

@@ -11,7 +11,6 @@ ghost use Rattle.polyvalues.specs.Polyvalues.{mostPairs, inUse};
 ghost use Rattle.polyvalues.specs.Operations.{samePair, occurs, different, together, same};
 use crate::polyvalue::Pair;
 use crate::polyvalue::Polyvalue;
-use crate::polyvalue::nothing;
 
 impl Pair {
     // Whether it is the same value under the same condition.
@@ -97,6 +96,6 @@ impl Polyvalue {
     pub fn together(self, other: Polyvalue) -> usize
         ensures { λ r. ⌜ r ≡ together (inUse self) (inUse other) ⌝ }
     {
-        self.fresh(other) + other.fresh(nothing())
+        self.fresh(other) + other.fresh(Polyvalue::nothing())
     }
 }

@@ -10,7 +10,6 @@ ghost use Rattle.polyvalues.specs.Operations.{cut, changed, reduce, sele
 use crate::polyvalue::Joined;
 use crate::polyvalue::Pair;
 use crate::polyvalue::Polyvalue;
-use crate::polyvalue::nothing;
 use crate::rows::with_pair;
 use conditions::Condition;
 use conditions::Place;
@@ -92,7 +91,7 @@ impl Polyvalue {
     pub fn reduce(self, place: Place, outcome: bool) -> Polyvalue
         ensures { λ r. ⌜ r ≡ packed (reduce places (place .0) outcome (inUse self)) ⌝ }
     {
-        join_rows(nothing(), self, place, Cut::Reduced(outcome)).polyvalue
+        join_rows(Polyvalue::nothing(), self, place, Cut::Reduced(outcome)).polyvalue
     }
 
     // One polyvalue where the place is completed, another where it is aborted; the latter, where
@@ -100,7 +99,7 @@ impl Polyvalue {
     pub fn select(place: Place, done: Polyvalue, gone: Polyvalue) -> Joined
         ensures { λ r. ⌜ r ≡ fitted gone (select places (place .0) (inUse done) (inUse gone)) ⌝ }
     {
-        let first = join_rows(nothing(), done, place, Cut::Completed);
+        let first = join_rows(Polyvalue::nothing(), done, place, Cut::Completed);
         let both = join_rows(first.polyvalue, gone, place, Cut::Aborted);
         if both.fits {
             return both;

@@ -55,17 +55,6 @@ impl Pair {
     }
 }
 
-// The polyvalue of no pairs, which others are joined into.
-pub(crate) fn nothing() -> Polyvalue
-    ensures { λ r. ⌜ r ≡ packed [] ⌝ }
-{
-    Polyvalue {
-        count: 0,
-        values: [0; PAIRS],
-        conditions: [Condition::EMPTY; PAIRS],
-    }
-}
-
 impl Polyvalue {
     // The pair of row i.
     pub(crate) fn row(self, i: usize) -> Pair
@@ -109,11 +98,22 @@ impl Polyvalue {
         }
     }
 
+    // No pairs, which others are joined into.
+    pub fn nothing() -> Polyvalue
+        ensures { λ r. ⌜ r ≡ packed [] ⌝ }
+    {
+        Polyvalue {
+            count: 0,
+            values: [0; PAIRS],
+            conditions: [Condition::EMPTY; PAIRS],
+        }
+    }
+
     // One pair that always applies.
     pub fn certain(value: i16) -> Polyvalue
         ensures { λ r. ⌜ r ≡ packed (certain places value) ⌝ }
     {
-        let mut q = nothing();
+        let mut q = Polyvalue::nothing();
         q.count = 1;
         q.values[0] = value;
         q.conditions[0] = Condition::FULL;

@@ -24,7 +24,7 @@ fn with_record(b: Book, d: usize, r: Record) -> Book {
 }
 
 // The book with another item.
-pub(crate) fn with_item(b: Book, i: usize, x: Item) -> Book {
+fn with_item(b: Book, i: usize, x: Item) -> Book {
     let mut a = b;
     if i < ITEMS {
         a.items[i] = x;

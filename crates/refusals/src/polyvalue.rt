@@ -9,14 +9,14 @@ use conditions::Place;
 use polyvalues::PAIRS;
 use polyvalues::Polyvalue;
 
-// 0 where the place completes, 3 where it aborts.
-pub(crate) fn two_values(place: usize) -> Polyvalue {
-    Polyvalue::select(Place(place), Polyvalue::certain(0), Polyvalue::certain(3)).polyvalue
-}
-
 // The first values where the place completes, the second where it aborts.
 fn either(place: usize, done: Polyvalue, gone: Polyvalue) -> Polyvalue {
     Polyvalue::select(Place(place), done, gone).polyvalue
+}
+
+// 0 where the place completes, 3 where it aborts.
+pub(crate) fn two_values(place: usize) -> Polyvalue {
+    either(place, Polyvalue::certain(0), Polyvalue::certain(3))
 }
 
 // 0 to 7, under the places 0, 2 and 3.

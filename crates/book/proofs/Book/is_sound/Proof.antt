@@ -30,22 +30,22 @@ Inv-loop2 self count districts records places depended i₀ i = (count ≤ i) ×
 abbrev μ-loop2 : tie.MeasureT-loop2
 μ-loop2 self count districts records places depended i₀ i = mostItems - i
 
-sound-counts-requires : tie.Need-sound-counts-requires Inv-loop μ-loop Inv-loop2 μ-loop2
-sound-counts-requires c κs = search needs
+good-counts-requires : tie.Need-good-counts-requires Inv-loop μ-loop Inv-loop2 μ-loop2
+good-counts-requires c κs = search needs
 
 returns : tie.Need-returns Inv-loop μ-loop Inv-loop2 μ-loop2
 unfolding sound
-returns c = rw (sym (c .before .sound-counts .ensures) ∙ not-true _ (c .if1 .taken))
+returns c = rw (sym (c .before .good-counts .ensures) ∙ not-true _ (c .if1 .taken))
 
 loop-holds : tie.Need-loop-holds Inv-loop μ-loop Inv-loop2 μ-loop2
 unfolding all
 loop-holds c = (omega arith, refl, gathered-none width _)
 
 mul-x : tie.Need-mul-x Inv-loop μ-loop Inv-loop2 μ-loop2
-mul-x c = record { fits = omega (arith, few-rows (c .before .before .before .before .before .before .args .t1 .districts) (c .before .before .before .before .before .before .args .t1 .count) (c .before .before .before .before .before .sound-counts .ensures) (c .before .before .before .before .if1 .left) .1) }
+mul-x c = record { fits = omega (arith, few-rows (c .before .before .before .before .before .before .args .t1 .districts) (c .before .before .before .before .before .before .args .t1 .count) (c .before .before .before .before .before .good-counts .ensures) (c .before .before .before .before .if1 .left) .1) }
 
 element-copy-out-x : tie.Need-element-copy-out-x Inv-loop μ-loop Inv-loop2 μ-loop2
-element-copy-out-x c = omega (arith, few-rows (c .before .before .before .before .before .before .args .t1 .districts) (c .before .before .before .before .before .before .args .t1 .count) (c .before .before .before .before .before .sound-counts .ensures) (c .before .before .before .before .if1 .left) .1)
+element-copy-out-x c = omega (arith, few-rows (c .before .before .before .before .before .before .args .t1 .districts) (c .before .before .before .before .before .before .args .t1 .count) (c .before .before .before .before .before .good-counts .ensures) (c .before .before .before .before .if1 .left) .1)
 
 places-of-requires : tie.Need-places-of-requires Inv-loop μ-loop Inv-loop2 μ-loop2
 places-of-requires c κs = search needs
@@ -55,7 +55,7 @@ sound-row-requires c κs = search needs
 
 returns-2 : tie.Need-returns-2 Inv-loop μ-loop Inv-loop2 μ-loop2
 unfolding sound
-returns-2 c = rw (all-fails mostItems (soundItem width (c .before .before .before .before .before .before .before .before .before .before .args .t1)) (c .before .before .before .before .before .loop .i) (omega (arith, few-rows (c .before .before .before .before .before .before .before .before .before .before .args .t1 .districts) (c .before .before .before .before .before .before .before .before .before .before .args .t1 .count) (c .before .before .before .before .before .before .before .before .before .sound-counts .ensures) (c .before .before .before .before .before .before .before .before .if1 .left) .1)) (item-row width (c .before .before .before .before .before .before .before .before .before .before .args .t1) (omega arith) ∙ sym (c .before .sound-row .ensures (c .before .before .before .before .before .before .before .before .before .before .args .t1) refl refl refl (c .before .before .places-of .ensures)) ∙ not-true _ (c .if2 .taken)), and-false)
+returns-2 c = rw (all-fails mostItems (soundItem width (c .before .before .before .before .before .before .before .before .before .before .args .t1)) (c .before .before .before .before .before .loop .i) (omega (arith, few-rows (c .before .before .before .before .before .before .before .before .before .before .args .t1 .districts) (c .before .before .before .before .before .before .before .before .before .before .args .t1 .count) (c .before .before .before .before .before .before .before .before .before .good-counts .ensures) (c .before .before .before .before .before .before .before .before .if1 .left) .1)) (item-row width (c .before .before .before .before .before .before .before .before .before .before .args .t1) (omega arith) ∙ sym (c .before .sound-row .ensures (c .before .before .before .before .before .before .before .before .before .before .args .t1) refl refl refl (c .before .before .places-of .ensures)) ∙ not-true _ (c .if2 .taken)), and-false)
 
 add-i : tie.Need-add-i Inv-loop μ-loop Inv-loop2 μ-loop2
 add-i c = search needs
@@ -72,7 +72,7 @@ loop-again c = (
 )
 
 loop2-holds : tie.Need-loop2-holds Inv-loop μ-loop Inv-loop2 μ-loop2
-loop2-holds c = (omega arith, omega (arith, few-rows (c .before .before .before .before .before .before .args .t1 .districts) (c .before .before .before .before .before .before .args .t1 .count) (c .before .before .before .before .before .sound-counts .ensures) (c .before .before .before .before .if1 .left) .1, c .before .loop .inv .0), c .before .loop .inv .1)
+loop2-holds c = (omega arith, omega (arith, few-rows (c .before .before .before .before .before .before .args .t1 .districts) (c .before .before .before .before .before .before .args .t1 .count) (c .before .before .before .before .before .good-counts .ensures) (c .before .before .before .before .if1 .left) .1, c .before .loop .inv .0), c .before .loop .inv .1)
 
 mul-x-2 : tie.Need-mul-x-2 Inv-loop μ-loop Inv-loop2 μ-loop2
 mul-x-2 c = search needs
@@ -110,7 +110,7 @@ unfolding sound
 returns-4 c = rw (sym (c .before .sound-districts .ensures (c .before .before .before .before .before .before .before .before .before .before .before .args .t1) (let last : c .before .before .before .before .before .before .loop .i ≡ c .before .before .before .before .before .before .before .before .before .before .before .args .t1 .count = omega (arith, c .before .before .before .before .before .before .loop .inv .0) in record { last = refl; districts = refl; records = refl; places = refl; depended = all-depended width (c .before .before .before .before .before .before .before .before .before .before .before .args .t1) (c .before .before .before .before .before .before .loop .depended) last (c .before .before .before .before .before .before .loop .inv .2) })) ∙ not-true _ (c .if4 .taken), and-false)
 
 sound-places-requires : tie.Need-sound-places-requires Inv-loop μ-loop Inv-loop2 μ-loop2
-sound-places-requires c κs = few-rows (c .before .before .before .before .before .before .before .before .before .before .before .args .t1 .districts) (c .before .before .before .before .before .before .before .before .before .before .before .args .t1 .count) (c .before .before .before .before .before .before .before .before .before .before .sound-counts .ensures) (c .before .before .before .before .before .before .before .before .before .if1 .left) .0
+sound-places-requires c κs = few-rows (c .before .before .before .before .before .before .before .before .before .before .before .args .t1 .districts) (c .before .before .before .before .before .before .before .before .before .before .before .args .t1 .count) (c .before .before .before .before .before .before .before .before .before .before .good-counts .ensures) (c .before .before .before .before .before .before .before .before .before .if1 .left) .0
 
 returns-5 : tie.Need-returns-5 Inv-loop μ-loop Inv-loop2 μ-loop2
 unfolding sound
@@ -119,7 +119,7 @@ returns-5 c =
     let last : c .before .before .before .before .before .loop2 .i ≡ mostItems = omega (arith, c .before .before .before .before .before .loop2 .inv .1) in
     c .sound-places .ensures (c .before .before .before .before .before .before .before .before .before .before .before .before .args .t1) tables
     ∙ rw (
-      sym (c .before .before .before .before .before .before .before .before .before .before .before .sound-counts .ensures) ∙ not-false _ (c .before .before .before .before .before .before .before .before .before .before .if1 .left),
+      sym (c .before .before .before .before .before .before .before .before .before .before .before .good-counts .ensures) ∙ not-false _ (c .before .before .before .before .before .before .before .before .before .before .if1 .left),
       number-last (c .before .before .before .before .before .before .before .before .before .before .before .before .good .0 .1 .1 .0 .1 .1 .0 .1),
       sym (c .before .before .sound-districts .ensures (c .before .before .before .before .before .before .before .before .before .before .before .before .args .t1) tables) ∙ not-false _ (c .before .if4 .left),
       rw last at (c .before .before .before .before .before .loop2 .inv .2),
@@ -133,7 +133,7 @@ is-sound-spec =
     μ-loop
     Inv-loop2
     μ-loop2
-    sound-counts-requires
+    good-counts-requires
     returns
     loop-holds
     mul-x
