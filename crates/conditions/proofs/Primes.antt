@@ -13,7 +13,7 @@ use Rattle.conditions.specs.Below.{all, first}
 use Rattle.conditions.specs.Sets.{member}
 use Rattle.conditions.specs.Conditions.{dependsOn}
 use Rattle.conditions.specs.Products.{tagAt, allows, allowed, within, dropped, needed, prime, NonePrime, primeFrom}
-use Rattle.conditions.proofs.Laws.Below.{by-cases, all-fails, is-first, first-le, first-passes, before-first}
+use Rattle.conditions.proofs.Laws.Below.{by-cases, both-ways, all-fails, is-first, first-le, first-passes, before-first}
 use Rattle.conditions.proofs.Laws.Sets.{member-and, member-not, member-none, same-members}
 use Rattle.conditions.proofs.Laws.Products.{tag-part, member-allowed, allowed-lt, within-at, within-of, prime-low}
 
@@ -21,9 +21,9 @@ use Rattle.conditions.proofs.Laws.Products.{tag-part, member-allowed, a
 pub within-test : (w p c : ℕ) {m : ℕ} → c < 2 ^ 2 ^ w → m ≡ allowed w p → eqb (bitAnd m (2 ^ 2 ^ w - 1 - c)) 0 ≡ within w p c
 within-test w p c hc q =
     rw q
-    (by-cases (within w p c)
-    (λ e. eq-eqb _ _ (none (λ a h t. within-at w p c e a h t)) ∙ sym e)
-    (λ e. by-cases (eqb (bitAnd (allowed w p) (2 ^ 2 ^ w - 1 - c)) 0) (λ z. z ∙ sym (within-of w p c (λ a h t. inside a h t (eqb-true _ _ z)))) (λ z. z ∙ sym e)))
+    (both-ways (eqb (bitAnd (allowed w p) (2 ^ 2 ^ w - 1 - c)) 0) (within w p c)
+    (λ z. within-of w p c (λ a h t. inside a h t (eqb-true _ _ z)))
+    (λ e. eq-eqb _ _ (none (within-at w p c e))))
   where
     at : (a : ℕ) → a < 2 ^ w → member (bitAnd (allowed w p) (2 ^ 2 ^ w - 1 - c)) a ≡ (allows w p a && not (member c a))
     at a h = simp (member-and, member-allowed w p a h, member-not (2 ^ w) c a hc h)

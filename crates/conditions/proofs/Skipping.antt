@@ -2,17 +2,17 @@
 use mathlib.Core.Path.{_≡_, refl, sym, ap, ap₂, _∙_}
 use mathlib.Core.Bool.{Bool, false, not, _&&_, _||_, and-not-self}
 use Prim.Native.Nat.{ℕ, suc, _+_, _-_, _*_, _/_, _%_, _^_, _≤_, _<_}
-use native.Mathlib.Nat.{le-refl, mod-lt, one-le-pow, zero-lt-suc, pow-suc, pow-succ', div-add-mod', div-div-eq-div-mul}
+use native.Mathlib.Nat.{le-refl, mod-lt, one-le-pow, zero-lt-suc, pow-suc, pow-succ', div-add-mod'}
 use native.Mathlib.Omega.{arith}
 use lib.Arith.{mod-mul, digits-div, digits-mod}
 use lib.Bits.{bitAnd, and-mask}
 use lib.Dec.{eqb}
-use lib.Pow.{pow-add, pow-lt, pow-pos}
+use lib.Pow.{pow-lt, pow-pos}
 use borrow.Author.Tests.{ne-eqb}
 use Rattle.conditions.specs.Products.{tagAt, within, dropped, needed, NonePrime}
 use Rattle.conditions.proofs.Laws.Below.{by-cases}
 use Rattle.conditions.proofs.Laws.Sets.{one-shl}
-use Rattle.conditions.proofs.Laws.Products.{tag-dropped, tag-other, within-tags}
+use Rattle.conditions.proofs.Laws.Products.{tag-dropped, tag-other, within-tags, tag-high}
 use Rattle.conditions.proofs.Laws.Halves.{within-absent, within-completed, within-aborted, within-nothing}
 use Rattle.conditions.proofs.Primes.{not-within, not-needed}
 
@@ -114,19 +114,14 @@ walk-on w c p k {i} {set} e walk narrows =
 
 -- ---- where it stops
 
--- the tags from place k on are those of the quotient
-tag-high : (p k n : ℕ) → tagAt p (k + n) ≡ p / 3 ^ k / 3 ^ n % 3
-unfolding tagAt
-tag-high p k n = ap (λ (m : ℕ). p / m % 3) (pow-add 3 k n) ∙ ap (λ (m : ℕ). m % 3) (sym (div-div-eq-div-mul p (3 ^ k) (3 ^ n)))
-
--- so the numbers up to the next multiple of 3 ^ k have the same ones
+-- the numbers up to the next multiple of 3 ^ k have the same tags from place k on
 same-high : (p k j : ℕ) → j < 3 ^ k - p % 3 ^ k → (i : ℕ) → k ≤ i → tagAt (p + j) i ≡ tagAt p i
 same-high p k j h i l =
     let cut : p / 3 ^ k * 3 ^ k + p % 3 ^ k ≡ p = div-add-mod' p (3 ^ k) in
     let sum : p + j ≡ p / 3 ^ k * 3 ^ k + (p % 3 ^ k + j) = omega arith in
     let high : (p + j) / 3 ^ k ≡ p / 3 ^ k = ap (λ (n : ℕ). n / 3 ^ k) sum ∙ digits-div (p / 3 ^ k) (omega arith) in
     let at : i ≡ k + (i - k) = omega arith in
-    ap (tagAt (p + j)) at ∙ tag-high (p + j) k (i - k) ∙ ap (λ (n : ℕ). n / 3 ^ (i - k) % 3) high ∙ sym (ap (tagAt p) at ∙ tag-high p k (i - k))
+    ap (tagAt (p + j)) at ∙ tag-high (p + j) k (i - k) ∙ ap (λ (n : ℕ). tagAt n (i - k)) high ∙ sym (ap (tagAt p) at ∙ tag-high p k (i - k))
 
 -- and none of them is prime, where none needs its tag at place k
 pub walk-stops : (w c p k : ℕ) {i set rest scale : ℕ} → i ≡ suc k → Walk w c p i set rest scale

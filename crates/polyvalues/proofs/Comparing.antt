@@ -20,7 +20,7 @@ use Rattle.polyvalues.proofs.Joining.{packed-in-use}
 
 -- ---- the same pairs
 
-pub same-length : (ps qs : List Pair) → same ps qs ≡ true → length ps ≡ length qs
+same-length : (ps qs : List Pair) → same ps qs ≡ true → length ps ≡ length qs
 same-length [] [] e = refl
 same-length [] (q ∷ qs) e = absurd (false≢true e)
 same-length (p ∷ ps) [] e = absurd (false≢true e)

@@ -1,19 +1,20 @@
 -- A pair joined into the rows of a polyvalue: what the code leaves is what the definition says, packed.
 use mathlib.Core.Path.{_≡_, refl, sym, ap, ap₂, _∙_}
 use mathlib.Core.Bool.{Bool, true, false, _&&_, true≢false}
-use mathlib.Core.List.{List, [], _∷_, _++_, map, append-nil, append-assoc}
+use mathlib.Core.List.{List, [], _∷_, _++_, append-nil, append-assoc}
 use Prim.Native.Nat.{ℕ, suc, _+_, _-_, _≤_, _<_, min}
 use native.Mathlib.Omega.{arith}
 use lib.Dec.{leb, ltb}
 use lib.IntN.{ℤ}
-use lib.ListN.{length, getD, take, drop, set, replicate, length-append, length-take, length-drop, length-set, length-replicate, length-map, replicate-append-replicate, take-append-drop, drop-of-length-le, List·getD-append}
-use lib.Seq.{take-all, drop-cons, length-take-le, take-append-le, drop-append-le, set-append-left, set-at}
+use lib.ListN.{length, getD, take, drop, set, replicate, length-append, length-take, length-drop, length-set, length-replicate, length-map, replicate-append-replicate, take-append-drop, drop-of-length-le}
+use lib.Seq.{take-at, drop-cons, take-append-le, drop-append-le, set-append-left, set-at}
 use borrow.Author.Tests.{ltb-true, le-leb, lt-leb, leb-true, leb-false, lt-ltb}
 use Rattle.conditions.specs.declared.condition.Condition.{Condition}
 use Rattle.conditions.specs.Places.{places}
 use Rattle.conditions.specs.Conditions.{number, ofNumber, full, always, union}
 use Rattle.conditions.proofs.Laws.Conditions.{always-full}
 use Rattle.conditions.proofs.Laws.Below.{and-left, and-right, by-cases}
+use Rattle.conditions.proofs.Laws.Lists.{take-row}
 use Rattle.polyvalues.specs.declared.polyvalue.Pair.{Pair}
 use Rattle.polyvalues.specs.declared.polyvalue.Polyvalue.{Polyvalue}
 use Rattle.polyvalues.specs.declared.polyvalue.Joined.{Joined}
@@ -23,7 +24,7 @@ use Rattle.polyvalues.specs.Polyvalues.{mostPairs, paired, rowsOf, inUse
 use Rattle.polyvalues.specs.Simplify.{insert}
 use Rattle.polyvalues.specs.Rows.{valueAt, PlaceOf, hasAt, carried, moved}
 use Rattle.polyvalues.proofs.Laws.Values.{equal-true, below-else}
-use Rattle.polyvalues.proofs.Laws.Paired.{rows-packed, paired-set, values-paired, conditions-paired}
+use Rattle.polyvalues.proofs.Laws.Paired.{rows-packed, paired-set, packed-is}
 use Rattle.polyvalues.proofs.Laws.Rows.{insert-new, insert-same}
 
 -- a pair of the code is known by its value and its condition's number
@@ -31,14 +32,6 @@ pub pair-is : (v : ℤ) (c : Condition) {n : ℕ} → number c ≡ n → _≡_ {
 pair-is v c e = ap (pair v) e
 
 -- ---- packed rows
-
-pub packed-is : (ps : List Pair) {n : ℕ} {vs : List ℤ} {cs : List Condition} → n ≡ length ps → length vs ≡ length cs → paired vs cs ≡ padded ps
-    → _≡_ {A = Polyvalue} (record { count = n; values = vs; conditions = cs }) (packed ps)
-unfolding packed
-packed-is ps {vs = vs} {cs = cs} e l f =
-    let values : vs ≡ map (λ p. p .value) (padded ps) = sym (values-paired vs cs l) ∙ ap (map (λ p. p .value)) f in
-    let conditions : cs ≡ map (λ p. p .condition) (padded ps) = sym (conditions-paired vs cs l) ∙ ap (map (λ p. p .condition)) f in
-    λ i. record { count = e i; values = values i; conditions = conditions i }
 
 pub fitted-yes : (q : Polyvalue) (ps : List Pair) → length ps ≤ mostPairs → fitted q ps ≡ record { fits = true; polyvalue = packed ps }
 unfolding fitted
@@ -68,13 +61,18 @@ in-use-length q = length-take (q .count) (rowsOf q)
 pub in-use-le : (q : Polyvalue) → length (rowsOf q) ≡ mostPairs → length (inUse q) ≤ mostPairs
 in-use-le q l = omega (arith, in-use-length q)
 
+-- the code's row i, if it is in use, is one of the list
+pub in-use-row : (q : Polyvalue) (i : ℕ) {p : Pair} → p ≡ getD (rowsOf q) i noPair → i < length (inUse q) → getD (inUse q) i noPair ≡ p
+unfolding inUse
+in-use-row q i e h = take-row (q .count) (rowsOf q) i noPair h ∙ sym e
+
 -- a polyvalue whose rows past the count are zero
 module _ (q : Polyvalue) (tidy : q ≡ packed (inUse q)) where
   pub tidy-count : q .count ≡ length (inUse q)
   unfolding packed
   tidy-count = ap (λ (r : Polyvalue). r .count) tidy
 
-  pub tidy-rows : rowsOf q ≡ padded (inUse q)
+  tidy-rows : rowsOf q ≡ padded (inUse q)
   tidy-rows = ap (λ (r : Polyvalue). rowsOf r) tidy ∙ rows-packed (inUse q)
 
   tidy-even : length (q .values) ≡ length (q .conditions)
@@ -82,9 +80,6 @@ module _ (q : Polyvalue) (tidy : q ≡ packed (inUse q)) where
   tidy-even =
       ap (λ (r : Polyvalue). length (r .values)) tidy ∙ length-map (padded (inUse q)) (λ p. p .value)
       ∙ sym (length-map (padded (inUse q)) (λ p. p .condition)) ∙ ap (λ (r : Polyvalue). length (r .conditions)) (sym tidy)
-
-  pub row-at : (j : ℕ) → j < length (inUse q) → getD (rowsOf q) j noPair ≡ getD (inUse q) j noPair
-  row-at j h = ap (λ (l : List Pair). getD l j noPair) tidy-rows ∙ List·getD-append (inUse q) _ noPair j h
 
 pub has-lt : (q : Polyvalue) (k : ℕ) (v : ℤ) → hasAt q k v ≡ true → k < q .count
 has-lt q k v e = ltb-true k (q .count) (and-left (ltb k (q .count)) (equal (valueAt q k) v) e)
@@ -123,7 +118,7 @@ module _ (w : ℕ) (q : Polyvalue) (new : Pair) (k : ℕ) (tidy : q ≡ packed (
   before : (j : ℕ) → j < k → below (getD (inUse q) j noPair .value) (new .value) ≡ true
   before j h =
       let l : k ≤ length (inUse q) = within in
-      ap (λ (p : Pair). below (p .value) (new .value)) (sym (row-at q tidy j (omega arith))) ∙ place .before j h
+      ap (λ (p : Pair). below (p .value) (new .value)) (in-use-row q j refl (omega arith)) ∙ place .before j h
 
   -- the row of its value takes the union
   pub inserted-same : {there both : Pair} → hasAt q k (new .value) ≡ true → there ≡ getD (rowsOf q) k noPair → both ≡ pair (new .value) (union w (assignments there) (assignments new))
@@ -131,12 +126,11 @@ module _ (w : ℕ) (q : Polyvalue) (new : Pair) (k : ℕ) (tidy : q ≡ packed (
       (fitted q (insert w (new .value) (assignments new) (inUse q)))
   inserted-same {both = both} has at is =
       let h : k < length (inUse q) = omega (arith, has-lt q k (new .value) has, tidy-count q tidy) in
-      let row : getD (rowsOf q) k noPair ≡ getD (inUse q) k noPair = row-at q tidy k h in
       let value : getD (inUse q) k noPair .value ≡ new .value =
-      sym (ap (λ (p : Pair). p .value) row) ∙ equal-true _ _ (and-right (ltb k (q .count)) (equal (valueAt q k) (new .value)) has) in
+      ap (λ (p : Pair). p .value) (in-use-row q k refl h) ∙ equal-true _ _ (and-right (ltb k (q .count)) (equal (valueAt q k) (new .value)) has) in
       let result : insert w (new .value) (assignments new) (inUse q) ≡ set (inUse q) k both =
       insert-same w (new .value) (assignments new) (inUse q) k h before value
-      ∙ ap (set (inUse q) k) (ap (λ (p : Pair). pair (new .value) (union w (assignments p) (assignments new))) (sym (at ∙ row)) ∙ sym is) in
+      ∙ ap (set (inUse q) k) (ap (λ (p : Pair). pair (new .value) (union w (assignments p) (assignments new))) (in-use-row q k at h) ∙ sym is) in
       let long : length (set (inUse q) k both) ≡ length (inUse q) = length-set (inUse q) k both in
       let even : length (set (q .values) k (both .value)) ≡ length (set (q .conditions) k (both .condition)) =
       length-set (q .values) k (both .value) ∙ tidy-even q tidy ∙ sym (length-set (q .conditions) k (both .condition)) in
@@ -150,9 +144,8 @@ module _ (w : ℕ) (q : Polyvalue) (new : Pair) (k : ℕ) (tidy : q ≡ packed (
       insert-new w (new .value) (assignments new) (inUse q) k within before
       (λ h.
       let l : k < q .count = omega (arith, tidy-count q tidy) in
-      let row : getD (rowsOf q) k noPair ≡ getD (inUse q) k noPair = row-at q tidy k h in
       let apart : equal (valueAt q k) (new .value) ≡ false = ap (λ (b : Bool). b && equal (valueAt q k) (new .value)) (sym (lt-ltb k (q .count) l)) ∙ has in
-      ap (λ (p : Pair). below (new .value) (p .value)) (sym row) ∙ below-else (valueAt q k) (new .value) (place .stops l) apart)
+      ap (λ (p : Pair). below (new .value) (p .value)) (in-use-row q k refl h) ∙ below-else (valueAt q k) (new .value) (place .stops l) apart)
 
   -- a value that no row has, and no room for it
   pub inserted-none : hasAt q k (new .value) ≡ false → mostPairs ≤ q .count
@@ -200,9 +193,5 @@ unfolding inUse
 zeros-all q n l e h even f =
     packed-is (take (q .count) (rowsOf q)) e even
     (f ∙ ap (λ (z : List Pair). take n (rowsOf q) ++ replicate (mostPairs - n) noPair ++ z) (drop-of-length-le (rowsOf q) {i = mostPairs} (omega arith))
-    ∙ append-nil _ ∙ ap₂ (λ (x : List Pair) (k : ℕ). x ++ replicate (mostPairs - k) noPair) (same-take (q .count) n (rowsOf q) e) e)
-  where
-    same-take : (k n : ℕ) (ps : List Pair) → n ≡ length (take k ps) → take n ps ≡ take k ps
-    same-take k n ps e = by-cases (leb k (length ps))
-        (λ t. ap (λ (m : ℕ). take m ps) (e ∙ length-take-le k ps (leb-true k (length ps) t)))
-        (λ t. let long : length ps ≤ k = omega (arith, leb-false k (length ps) t) in take-all n ps (omega (arith, e, ap length (take-all k ps long))) ∙ sym (take-all k ps long))
+    ∙ append-nil _ ∙ ap₂ (λ (x : List Pair) (k : ℕ). x ++ replicate (mostPairs - k) noPair)
+    (ap (take n) (sym (take-append-drop (q .count) (rowsOf q))) ∙ take-at (take (q .count) (rowsOf q)) (drop (q .count) (rowsOf q)) n (sym e)) e)

@@ -10,17 +10,16 @@ use Rattle.conditions.specs.Places.{places}
 use Rattle.conditions.specs.Sets.{member, setOf}
 use Rattle.conditions.specs.Conditions.{dependsOn}
 use Rattle.conditions.proofs.Laws.Sets.{member-none, member-or, member-setOf, is-setOf}
-use Rattle.conditions.proofs.Laws.Lists.{take-row, drop-take}
+use Rattle.conditions.proofs.Laws.Lists.{drop-take}
 use Rattle.polyvalues.specs.declared.polyvalue.Pair.{Pair}
 use Rattle.polyvalues.specs.declared.polyvalue.Polyvalue.{Polyvalue}
 use Rattle.polyvalues.specs.declared.polyvalue.Joined.{Joined}
-use Rattle.polyvalues.specs.declared.operations.Cut.the-variants.{Reduced, Completed, Aborted}
+use Rattle.polyvalues.specs.declared.operations.Cut.the-variants.{Completed, Aborted}
 use Rattle.polyvalues.specs.Pairs.{pair, assignments, noPair, depends}
 use Rattle.polyvalues.specs.Polyvalues.{mostPairs, rowsOf, inUse, packed, fitted}
 use Rattle.polyvalues.specs.Simplify.{join, simplifiedFrom, simplified}
-use Rattle.polyvalues.specs.Operations.{cut, changed, reduce, select}
+use Rattle.polyvalues.specs.Operations.{cut, changed, select}
 use Rattle.polyvalues.proofs.Laws.Simplify.{grows-from, length-simplified}
-use Rattle.polyvalues.proofs.Laws.Operations.{reduce-count}
 use Rattle.polyvalues.proofs.Laws.Packed.{inUse-packed}
 use Rattle.polyvalues.proofs.Inserting.{fitted-yes, fitted-no, fits-yes, fits-no}
 
@@ -42,12 +41,7 @@ refit-no q t ps e f = sym (fitted-no q ps (fits-no t ps e f))
 
 -- ---- rows
 
--- the code's row i, if it is in use, is one of the list
-pub in-use-row : (q : Polyvalue) (i : ℕ) {p : Pair} → p ≡ getD (rowsOf q) i noPair → i < length (inUse q) → getD (inUse q) i noPair ≡ p
-unfolding inUse
-in-use-row q i e h = take-row (q .count) (rowsOf q) i noPair h ∙ sym e
-
--- and from row i on there are it and those after it
+-- from row i on there are it and those after it
 pub in-use-more : (q : Polyvalue) (i : ℕ) {p : Pair} → p ≡ getD (rowsOf q) i noPair → i < length (inUse q) → drop i (inUse q) ≡ p ∷ drop (suc i) (inUse q)
 unfolding inUse
 in-use-more q i e h = rw e (drop-take (q .count) (rowsOf q) i noPair h)
@@ -74,24 +68,15 @@ places-done q i s h l before = is-setOf places s (depends places (inUse q)) l (�
 
 -- ---- reduce and select
 
-module _ (w i : ℕ) {n : Polyvalue} (empty : n ≡ packed []) where
-  pub reduced-rows : (b : Bool) (q : Polyvalue) {r : Joined} → length (inUse q) ≤ mostPairs
-      → r ≡ fitted n (simplifiedFrom w (inUse n) (changed (cut w i (Reduced b)) (inUse q))) → r .polyvalue ≡ packed (reduce w i b (inUse q))
-  unfolding reduce simplified
-  reduced-rows b q few e =
-      let is : simplifiedFrom w (inUse n) (changed (cut w i (Reduced b)) (inUse q)) ≡ reduce w i b (inUse q) =
-      ap (λ (done : List Pair). simplifiedFrom w done (changed (cut w i (Reduced b)) (inUse q))) (packed-in-use [] empty) in
-      ap (λ (j : Joined). j .polyvalue) (e ∙ ap (fitted n) is ∙ fitted-yes n (reduce w i b (inUse q)) (omega (arith, reduce-count w i b (inUse q))))
-
-  pub completed-rows : (done : Polyvalue) {r : Joined} → length (inUse done) ≤ mostPairs
-      → r ≡ fitted n (simplifiedFrom w (inUse n) (changed (cut w i Completed) (inUse done)))
-      → r .polyvalue ≡ packed (simplified w (changed (cut w i Completed) (inUse done)))
-  unfolding simplified
-  completed-rows done few e =
-      let rows : List Pair = changed (cut w i Completed) (inUse done) in
-      let is : simplifiedFrom w (inUse n) rows ≡ simplified w rows = ap (λ (l : List Pair). simplifiedFrom w l rows) (packed-in-use [] empty) in
-      ap (λ (j : Joined). j .polyvalue)
-      (e ∙ ap (fitted n) is ∙ fitted-yes n (simplified w rows) (omega (arith, length-simplified w rows, length-map (inUse done) (λ p. pair (p .value) (cut w i Completed (assignments p))))))
+-- the rows with their conditions changed, joined into nothing
+pub changed-rows : (w : ℕ) (f : ℕ → ℕ) {n : Polyvalue} → n ≡ packed [] → (q : Polyvalue) {r : Joined} → length (inUse q) ≤ mostPairs
+    → r ≡ fitted n (simplifiedFrom w (inUse n) (changed f (inUse q))) → r .polyvalue ≡ packed (simplified w (changed f (inUse q)))
+unfolding simplified
+changed-rows w f {n} empty q few e =
+    let rows : List Pair = changed f (inUse q) in
+    let is : simplifiedFrom w (inUse n) rows ≡ simplified w rows = ap (λ (l : List Pair). simplifiedFrom w l rows) (packed-in-use [] empty) in
+    ap (λ (j : Joined). j .polyvalue)
+    (e ∙ ap (fitted n) is ∙ fitted-yes n (simplified w rows) (omega (arith, length-simplified w rows, length-map (inUse q) (λ p. pair (p .value) (f (assignments p))))))
 
 from-append : (w : ℕ) (done ps qs : List Pair) → simplifiedFrom w done (ps ++ qs) ≡ simplifiedFrom w (simplifiedFrom w done ps) qs
 unfolding simplifiedFrom

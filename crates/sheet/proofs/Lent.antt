@@ -68,7 +68,7 @@ module _ (w : ℕ) (b : Book) (i : ℕ) (xs : List ℕ) (from : ℕ) (fits : fro
       held-room : room lent 0 (heldLine w b i) ≡ true
       held-room = accepted-room w b i lent (ap accepted (sym answer-is) ∙ y)
 
-      pub end-is : r .end ≡ length (heldLine w b i)
+      end-is : r .end ≡ length (heldLine w b i)
       unfolding show
       end-is = ap (λ (x : Shown). x .end) e ∙ rw (sym answer-is, y)
 

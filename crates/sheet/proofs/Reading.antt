@@ -121,7 +121,7 @@ module _ (test : ℕ → Bool) where
       unfolding word
       word-good e = rw (drop-two s at h, e)
 
-      pub word-bad : test (wordAt s at) ≡ false → word test at (drop at s) ≡ wrong at
+      word-bad : test (wordAt s at) ≡ false → word test at (drop at s) ≡ wrong at
       unfolding word
       word-bad e = rw (drop-two s at h, e)
 

@@ -5,16 +5,15 @@ use mathlib.Core.List.{List, [], _∷_, _++_, append-nil, append-assoc}
 use Prim.Native.Nat.{ℕ, _+_, _-_, _^_, _≤_, _<_}
 use Prim.Native.Char.{code}
 use native.Mathlib.Omega.{arith}
-use lib.Dec.{leb}
 use lib.ListN.{length, take, drop, length-append, length-drop, drop-of-length-le}
 use lib.Seq.{take-nil, take-all, sets, sets-eq, drop-append-add, drop-drop}
 use borrow.Author.Tests.{le-leb, lt-leb}
 use Rattle.conditions.proofs.Laws.Below.{by-cases}
 use Rattle.conditions.specs.declared.text.Written.the-variants.{To, NoRoom}
-use Rattle.conditions.specs.Text.{bytes, digits, decimal, prefixed, joined}
+use Rattle.conditions.specs.Text.{bytes, decimal, prefixed, joined}
 use Rattle.conditions.specs.Written.{written, Put}
-use Rattle.conditions.proofs.Laws.Text.{decimal-le, decimal-one, prefixed-snoc}
-use Rattle.conditions.proofs.Putting.{put-length}
+use Rattle.conditions.proofs.Laws.Text.{decimal-some, decimal-le, decimal-one, prefixed-snoc}
+use Rattle.conditions.proofs.Putting.{put-length, put-written}
 use Rattle.book.specs.declared.Answer.{Answer}
 use Rattle.book.specs.declared.Answer.the-variants.{Accepted}
 use Rattle.book.specs.Answers.{answerNumber, accepted}
@@ -78,10 +77,7 @@ refusal-line a place =
 
 -- a line that was put is written
 pub line-written : {l m : List ℕ} {end : ℕ} {t : List ℕ} → Put l m 0 end t → length t ≤ length l → (end ≡ length t) × (m ≡ written l 0 t)
-unfolding written
-line-written {l} {m} {end} {t} p h =
-    let enough : leb (0 + length t) (length l) ≡ true = le-leb (0 + length t) (length l) (omega arith) in
-    (omega (arith, p .ends), p .holds ∙ sets-eq t l 0 (omega arith) ∙ rw enough)
+line-written p h = (omega (arith, p .ends), put-written (omega arith) p)
 
 -- what is answered of it
 module _ (l t : List ℕ) where
@@ -113,11 +109,6 @@ put-over {l} {m} {k} {i} {j} {s} {t} p q h fits =
       ends = q .ends;
       holds = q .holds ∙ at-start m t (omega (arith, put-length p)) ∙ ap (λ (r : List ℕ). t ++ r) rest ∙ sym (at-start l t fits);
     }
-
--- a number has a digit
-decimal-some : (n : ℕ) → 0 < length (decimal n)
-unfolding decimal digits
-decimal-some n = simp length-append (omega arith)
 
 -- what is put before a show's line is no longer than the line of a refused one
 pub head-shorter : (position : ℕ) (a : Answer) → length (head position Accepted ++ bytes " ") ≤ length (eventLine position a [])

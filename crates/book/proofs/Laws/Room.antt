@@ -1,7 +1,7 @@
 -- "Deciding, hearing and giving up never lack room." (document 01, Answer numbers) A decision changes no polyvalue. Reducing adds no value. The split of give up has at
 -- most the different values that held and pending have together, and a sound book has room for those.
 use mathlib.Core.Path.{_≡_}
-use mathlib.Core.Bool.{Bool, true, or-true}
+use mathlib.Core.Bool.{Bool, true}
 use mathlib.Core.List.{List, _++_}
 use Prim.Native.Nat.{ℕ, _≤_, _<_}
 use native.Mathlib.Omega.{arith}
@@ -13,18 +13,12 @@ use Rattle.polyvalues.specs.Polyvalues.{mostPairs, WellFormed, inUse}
 use Rattle.polyvalues.specs.Operations.{reduce, select, occurs, together}
 use Rattle.polyvalues.proofs.Laws.Operations.{reduce-count}
 use Rattle.polyvalues.proofs.Laws.Packed.{sound-well-formed}
-use Rattle.polyvalues.proofs.Laws.Room.{occurs-append, occurs-reduce, different-le, different-rising, select-count}
+use Rattle.polyvalues.proofs.Laws.Room.{occurs-append, occurs-first, occurs-second, occurs-reduce, different-le, different-rising, select-count}
 use Rattle.book.specs.declared.Book.{Book}
 use Rattle.book.specs.Book.{itemAt}
 use Rattle.book.specs.Sound.{Sound}
 
 -- ---- values that occur
-
-occurs-first : (u : ℤ) (ps qs : List Pair) → occurs u ps ≡ true → occurs u (ps ++ qs) ≡ true
-occurs-first u ps qs e = rw (occurs-append u ps qs, e)
-
-occurs-second : (u : ℤ) (ps qs : List Pair) → occurs u qs ≡ true → occurs u (ps ++ qs) ≡ true
-occurs-second u ps qs e = rw (occurs-append u ps qs, e) (or-true (occurs u ps))
 
 -- two lists have a value together where one of them has it
 occurs-either : (u : ℤ) (ps qs rs : List Pair) → (occurs u ps ≡ true → occurs u rs ≡ true) → (occurs u qs ≡ true → occurs u rs ≡ true) → occurs u (ps ++ qs) ≡ true → occurs u rs ≡ true

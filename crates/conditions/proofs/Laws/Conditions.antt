@@ -10,7 +10,7 @@ use Rattle.conditions.specs.Below.{first}
 use Rattle.conditions.specs.Sets.{member, setOf}
 use Rattle.conditions.specs.Places.{places, withPlace}
 use Rattle.conditions.specs.Conditions.{number, full, always, union, intersection, complement, empty, lowest, completed, selected, reduced, differ, dependsOn}
-use Rattle.conditions.proofs.Laws.Below.{or-left, by-cases, all-at, all-of, any-none, none-any}
+use Rattle.conditions.proofs.Laws.Below.{or-left, by-cases, both-ways, all-at, all-of, any-none, none-any}
 use Rattle.conditions.proofs.Laws.Sets.{digit-under, member-zero, member-suc, member-past, member-none, same-members, setOf-lt, member-setOf}
 use Rattle.conditions.proofs.Laws.Places.{place-lt, place-past, place-same, place-twice, place-swap}
 
@@ -63,7 +63,7 @@ pub intersection-lt : (w c d : ℕ) → intersection w c d < 2 ^ 2 ^ w
 unfolding intersection
 intersection-lt w c d = setOf-lt (2 ^ w) (λ a. member c a && member d a)
 
-pub completed-lt : (w i : ℕ) → completed w i < 2 ^ 2 ^ w
+completed-lt : (w i : ℕ) → completed w i < 2 ^ 2 ^ w
 unfolding completed
 completed-lt w i = setOf-lt (2 ^ w) (λ a. member a i)
 
@@ -98,9 +98,9 @@ union-filled w c d e =
 -- the one empty condition is written 0
 pub empty-zero : (w c : ℕ) → c < 2 ^ 2 ^ w → empty w c ≡ eqb c 0
 empty-zero w c h =
-    by-cases (empty w c)
-    (λ e. e ∙ sym (eq-eqb c 0 (same-members (2 ^ w) c 0 h (pow-pos (2 ^ w)) (λ a l. empty-none w c e a l ∙ sym (member-none a)))))
-    (λ e. e ∙ by-cases (eqb c 0) (λ z. sym e ∙ none-empty w c (λ a l. ap (λ (m : ℕ). member m a) (eqb-true c 0 z) ∙ member-none a) ∙ sym z) (λ z. sym z))
+    both-ways (empty w c) (eqb c 0)
+    (λ e. eq-eqb c 0 (same-members (2 ^ w) c 0 h (pow-pos (2 ^ w)) (λ a l. empty-none w c e a l ∙ sym (member-none a))))
+    (λ z. none-empty w c (λ a l. ap (λ (m : ℕ). member m a) (eqb-true c 0 z) ∙ member-none a))
 
 -- the zeros below the lowest 1 are as many as the lowest member's number
 trailing-first : (k c : ℕ) → trailingZeros k c ≡ first k (member c)
@@ -149,7 +149,7 @@ unchanged w c i e b a h =
     at true = refl
     at false = sym (depends-not w c i e a h)
 
-pub reduced-same : (w c i : ℕ) (b : Bool) → c < 2 ^ 2 ^ w → dependsOn w c i ≡ false → reduced w c i b ≡ c
+reduced-same : (w c i : ℕ) (b : Bool) → c < 2 ^ 2 ^ w → dependsOn w c i ≡ false → reduced w c i b ≡ c
 reduced-same w c i b h e =
     same-members (2 ^ w) (reduced w c i b) c (reduced-lt w c i b) h (λ a l. member-reduced w c i b a l ∙ unchanged w c i e b a l)
 
@@ -198,9 +198,5 @@ depends-reduced w c i =
     by-cases (eqb (reduced w c i true) (reduced w c i false))
     (λ e. rw e (not-depends w c i (λ a h. sym (member-reduced w c i true a h) ∙ ap (λ (m : ℕ). member m a) (eqb-true _ _ e) ∙ member-reduced w c i false a h)))
     (λ e. by-cases (dependsOn w c i) (λ d. rw e d)
-    (λ d. absurd (eqb-false _ _ e (setOf-is w c i d))))
-  where
-    setOf-is : (w c i : ℕ) → dependsOn w c i ≡ false → reduced w c i true ≡ reduced w c i false
-    setOf-is w c i d =
-        same-members (2 ^ w) (reduced w c i true) (reduced w c i false) (reduced-lt w c i true) (reduced-lt w c i false)
-        (λ a h. member-reduced w c i true a h ∙ depends-not w c i d a h ∙ sym (member-reduced w c i false a h))
+    (λ d. absurd (eqb-false _ _ e (same-members (2 ^ w) (reduced w c i true) (reduced w c i false) (reduced-lt w c i true) (reduced-lt w c i false)
+    (λ a h. member-reduced w c i true a h ∙ depends-not w c i d a h ∙ sym (member-reduced w c i false a h))))))

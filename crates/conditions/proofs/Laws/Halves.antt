@@ -37,7 +37,7 @@ counted i q true c f e =
 counted i q false c f e = all-of (2 ^ i) f (λ a h. e a h ∙ ap (λ (x : Bool). not x || member c a) (and-false (allows i q a)))
 
 -- a product is within a set where it is within each half that its last tag agrees with
-pub within-halves : (i q c : ℕ)
+within-halves : (i q c : ℕ)
     → within (suc i) q c ≡ (cond (agrees (tagAt q i) false) (within i q (c % 2 ^ 2 ^ i)) true && cond (agrees (tagAt q i) true) (within i q (c / 2 ^ 2 ^ i)) true)
 unfolding within allows all
 within-halves i q c =
@@ -52,7 +52,7 @@ within-halves i q c =
     ∙ ap (λ (y : Bool). not (allows i q a && agrees (tagAt q i) true) || y) (sym (member-shr c (2 ^ i) a))))
 
 -- within both is within what both have
-pub within-both : (w q c d : ℕ) → within w q (bitAnd c d) ≡ (within w q c && within w q d)
+within-both : (w q c d : ℕ) → within w q (bitAnd c d) ≡ (within w q c && within w q d)
 unfolding within
 within-both w q c d =
     all-same (2 ^ w) (λ a. not (allows w q a) || member (bitAnd c d) a) (λ a. (not (allows w q a) || member c a) && (not (allows w q a) || member d a))

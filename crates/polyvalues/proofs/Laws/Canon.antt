@@ -42,7 +42,7 @@ module _ (w : ℕ) (f : ℕ → ℤ) (s : ℕ) where
       (λ e. rw (e, ← (eqb-true a k e), holds-past a a u h (omega arith)) (or-false _ ∙ and-comm (equal (f a) u) (member s a)))
       (λ e. let apart : a ≡ k → ⊥ = eqb-false a k e in rw (e, and-false (equal (f k) u)) (holds-below k a u h (omega arith)))
 
-  pub holds-over : (a : ℕ) (u : ℤ) → a < 2 ^ w → holds (canonOver w f s) a u ≡ (member s a && equal (f a) u)
+  holds-over : (a : ℕ) (u : ℤ) → a < 2 ^ w → holds (canonOver w f s) a u ≡ (member s a && equal (f a) u)
   unfolding canonOver
   holds-over a u h = holds-below (2 ^ w) a u h h
 
@@ -99,7 +99,7 @@ pub holds-canon : (w : ℕ) (f : ℕ → ℤ) (a : ℕ) (u : ℤ) → a < 2 ^ w 
 unfolding canon
 holds-canon w f a u h = holds-over w f (full w) a u h ∙ rw (member-full w a h)
 
-pub simple-canon : (w : ℕ) (f : ℕ → ℤ) → Simple w (canon w f)
+simple-canon : (w : ℕ) (f : ℕ → ℤ) → Simple w (canon w f)
 unfolding canon
 simple-canon w f = simple-over w f (full w)
 
@@ -121,7 +121,7 @@ is-canon w f ps s e = same-holds w ps (canon w f) s (simple-canon w f) (λ a u h
 pub canon-own : (w : ℕ) (ps : List Pair) → Complete w ps → ps ≡ canon w (at ps)
 canon-own w ps c = is-canon w (at ps) ps (c .simple) (λ a u h. holds-at ps a u (c .once a h))
 
-pub canon-same : (w : ℕ) (f g : ℕ → ℤ) → ((a : ℕ) → a < 2 ^ w → f a ≡ g a) → canon w f ≡ canon w g
+canon-same : (w : ℕ) (f g : ℕ → ℤ) → ((a : ℕ) → a < 2 ^ w → f a ≡ g a) → canon w f ≡ canon w g
 canon-same w f g e = is-canon w g (canon w f) (simple-canon w f) (λ a u h. holds-canon w f a u h ∙ ap (λ (v : ℤ). equal v u) (e a h))
 
 pub unique : (w : ℕ) (ps qs : List Pair) → Complete w ps → Complete w qs → ((a : ℕ) → a < 2 ^ w → at ps a ≡ at qs a) → ps ≡ qs

@@ -5,13 +5,11 @@ use mathlib.Core.List.{List, [], _∷_}
 use Prim.Native.Nat.{ℕ, _+_, _^_, _<_}
 use native.Mathlib.Omega.{arith}
 use lib.Dec.{eqb}
-use lib.Pow.{pow-pos}
 use borrow.Author.Tests.{eq-eqb, eqb-true}
-use Rattle.conditions.specs.Below.{all}
 use Rattle.conditions.specs.Sets.{digit, member}
 use Rattle.conditions.specs.Conditions.{full, union, intersection, empty}
-use Rattle.conditions.proofs.Laws.Below.{and-left, and-right, by-cases, all-at, all-of}
-use Rattle.conditions.proofs.Laws.Sets.{member-none, same-members}
+use Rattle.conditions.proofs.Laws.Below.{and-left, and-right}
+use Rattle.conditions.proofs.Laws.Sets.{same-members}
 use Rattle.conditions.proofs.Laws.Conditions.{member-full, member-union, member-intersection, full-lt, union-lt, empty-none, none-empty}
 use Rattle.polyvalues.specs.declared.polyvalue.Pair.{Pair}
 use Rattle.polyvalues.specs.Pairs.{assignments, hits}
@@ -31,7 +29,7 @@ one-apart true true n e = absurd (omega arith)
 one-apart true false n e = refl
 one-apart false y n e = refl
 
-covers-once : (w s : ℕ) (ps : List Pair) → covers w s ps ≡ true → (a : ℕ) → a < 2 ^ w → digit (member s a) + hits ps a ≡ 1
+pub covers-once : (w s : ℕ) (ps : List Pair) → covers w s ps ≡ true → (a : ℕ) → a < 2 ^ w → digit (member s a) + hits ps a ≡ 1
 covers-once w s [] e a h = rw (eqb-true s (full w) e, member-full w a h)
 covers-once w s (p ∷ ps) e a h =
     let rest : digit (member (union w s (assignments p)) a) + hits ps a ≡ 1 =
@@ -41,7 +39,7 @@ covers-once w s (p ∷ ps) e a h =
     (sym (member-intersection w s (assignments p) a h) ∙ empty-none w _ (and-left _ (covers w (union w s (assignments p)) ps) e) a h) in
     omega arith
 
-once-covers : (w s : ℕ) (ps : List Pair) → s < 2 ^ 2 ^ w → ((a : ℕ) → a < 2 ^ w → digit (member s a) + hits ps a ≡ 1) → covers w s ps ≡ true
+pub once-covers : (w s : ℕ) (ps : List Pair) → s < 2 ^ 2 ^ w → ((a : ℕ) → a < 2 ^ w → digit (member s a) + hits ps a ≡ 1) → covers w s ps ≡ true
 once-covers w s [] l e = eq-eqb s (full w) (same-members (2 ^ w) s (full w) l (full-lt w) (λ a h. is (member s a) (e a h) ∙ sym (member-full w a h)))
   where
     is : (x : Bool) → digit x + 0 ≡ 1 → x ≡ true
@@ -55,11 +53,3 @@ once-covers w s (p ∷ ps) l e =
   where
     meet : (a : ℕ) → a < 2 ^ w → (member s a && member (assignments p) a) ≡ false
     meet a h = one-apart (member s a) (member (assignments p) a) (hits ps a) (e a h)
-
-pub covers-test : (w : ℕ) (ps : List Pair) → covers w 0 ps ≡ all (2 ^ w) (λ a. eqb (hits ps a) 1)
-covers-test w ps =
-    by-cases (covers w 0 ps)
-    (λ t. t ∙ sym (all-of (2 ^ w) (λ a. eqb (hits ps a) 1) (λ a h. eq-eqb (hits ps a) 1 (omega (arith, rw (member-none a) at (covers-once w 0 ps t a h))))))
-    (λ t. by-cases (all (2 ^ w) (λ a. eqb (hits ps a) 1))
-    (λ o. once-covers w 0 ps (pow-pos (2 ^ w)) (λ a h. rw (member-none a) (omega (arith, eqb-true (hits ps a) 1 (all-at (2 ^ w) (λ a. eqb (hits ps a) 1) o a h)))) ∙ sym o)
-    (λ o. t ∙ sym o))

@@ -1,6 +1,6 @@
 -- A list of pairs as the relation of the assignments and the values that they have. Simple lists with the same relation are the same pairs.
 use mathlib.Core.Path.{_≡_, refl, sym, ap, ap₂, _∙_}
-use mathlib.Core.Bool.{Bool, true, false, not, _&&_, _||_, true≢false, false≢true, or-false, and-true, and-false, not-and-self}
+use mathlib.Core.Bool.{Bool, true, false, not, _&&_, _||_, true≢false, false≢true, or-true, or-false, and-true, and-false, not-and-self}
 use mathlib.Core.List.{List, [], _∷_}
 use Prim.Native.Nat.{ℕ, _^_, _<_}
 use native.Mathlib.Omega.{arith}
@@ -14,24 +14,36 @@ use Rattle.polyvalues.specs.declared.polyvalue.Pair.{Pair}
 use Rattle.polyvalues.specs.Values.{below, equal}
 use Rattle.polyvalues.specs.Pairs.{pair, assignments, applies, at, hits}
 use Rattle.polyvalues.specs.Polyvalues.{each, risesFrom, rises, ofPlaces, proper, Simple}
-use Rattle.polyvalues.proofs.Laws.Values.{equal-refl, equal-true, below-not, below-trans, below-else}
+use Rattle.polyvalues.specs.Operations.{occurs}
+use Rattle.polyvalues.proofs.Laws.Values.{equal-refl, equal-true, not-equal, below-not, below-trans, below-else}
 
 -- some pair has the value u and applies under a
 abbrev pub holds : List Pair → ℕ → ℤ → Bool
 holds [] a u = false
 holds (p ∷ ps) a u = (equal (p .value) u && applies p a) || holds ps a u
 
+-- a value that holds occurs
+pub occurs-holds : (ps : List Pair) (a : ℕ) (u : ℤ) → holds ps a u ≡ true → occurs u ps ≡ true
+occurs-holds [] a u e = e
+occurs-holds (p ∷ ps) a u e =
+    by-cases (equal (p .value) u)
+    (λ t. rw (equal-true (p .value) u t, equal-refl u))
+    (λ t. rw (occurs-holds ps a u (rw t at e)) (or-true (equal u (p .value))))
+
 -- ---- in a list that rises
 
--- values above v hold nothing that is not above v
-above-holds : (ps : List Pair) (v u : ℤ) (a : ℕ) → risesFrom v ps ≡ true → below v u ≡ false → holds ps a u ≡ false
-above-holds [] v u a r e = refl
-above-holds (p ∷ ps) v u a r e =
+-- what is not above v is none of the values above v
+pub above-occurs : (ps : List Pair) (v u : ℤ) → risesFrom v ps ≡ true → below v u ≡ false → occurs u ps ≡ false
+above-occurs [] v u r e = refl
+above-occurs (p ∷ ps) v u r e =
     let up : below v (p .value) ≡ true = and-left _ _ r in
-    by-cases (equal (p .value) u)
-    (λ t. absurd (true≢false (sym up ∙ ap (below v) (equal-true _ _ t) ∙ e)))
-    (λ t. rw t (above-holds ps (p .value) u a (and-right (below v (p .value)) _ r)
-    (by-cases (below (p .value) u) (λ o. absurd (true≢false (sym (below-trans v (p .value) u up o) ∙ e))) (λ o. o))))
+    ap₂ _||_ (not-equal u (p .value) (λ q. true≢false (sym up ∙ ap (below v) (sym q) ∙ e)))
+    (above-occurs ps (p .value) u (and-right (below v (p .value)) _ r)
+    (by-cases (below (p .value) u) (λ o. absurd (true≢false (sym (below-trans v (p .value) u up o) ∙ e))) (λ o. o)))
+
+-- so it does not hold
+above-holds : (ps : List Pair) (v u : ℤ) (a : ℕ) → risesFrom v ps ≡ true → below v u ≡ false → holds ps a u ≡ false
+above-holds ps v u a r e = by-cases (holds ps a u) (λ t. absurd (true≢false (sym (occurs-holds ps a u t) ∙ above-occurs ps v u r e))) (λ t. t)
 
 module _ (p : Pair) (ps : List Pair) (rising : risesFrom (p .value) ps ≡ true) (a : ℕ) where
   pub head-holds : holds (p ∷ ps) a (p .value) ≡ applies p a

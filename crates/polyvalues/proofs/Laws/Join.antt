@@ -1,6 +1,6 @@
--- Joining a value under a condition into a list of pairs, and simplifying a list.
-use mathlib.Core.Path.{_≡_, refl, ap₂}
-use mathlib.Core.Bool.{Bool, true, false, not, _&&_, _||_, and-false}
+-- Joining a value under a condition into a list of pairs.
+use mathlib.Core.Path.{_≡_, refl, ap₂, _∙_}
+use mathlib.Core.Bool.{Bool, true, false, not, _&&_, _||_, and-false, or-assoc}
 use mathlib.Core.List.{List, [], _∷_}
 use Prim.Native.Nat.{ℕ, suc, _^_, _≤_, _<_}
 use native.Mathlib.Omega.{arith}
@@ -9,7 +9,7 @@ use lib.ListN.{length}
 use borrow.Author.Tests.{lt-ltb, not-true}
 use Rattle.conditions.specs.Sets.{member}
 use Rattle.conditions.specs.Conditions.{union, empty}
-use Rattle.conditions.proofs.Laws.Below.{and-left, and-right, by-cases}
+use Rattle.conditions.proofs.Laws.Below.{and-left, and-right, or-swap, by-cases}
 use Rattle.conditions.proofs.Laws.Conditions.{member-union, union-lt, empty-none, union-filled}
 use Rattle.polyvalues.specs.declared.polyvalue.Pair.{Pair}
 use Rattle.polyvalues.specs.Values.{below, equal}
@@ -42,19 +42,11 @@ module _ (w : ℕ) (v : ℤ) (c : ℕ) where
       insert-by (λ r. holds r a u ≡ (equal v u && member c a || holds (p ∷ ps) a u)) w v c p ps
       (λ b. refl)
       (λ e. rw (e, member-union w (assignments p) c a h) (both (equal (p .value) u) (applies p a) (member c a) (holds ps a u)))
-      (λ b. rw (holds-insert ps a u h) (swap (equal (p .value) u && applies p a) (equal v u && member c a) (holds ps a u)))
+      (λ b. rw (holds-insert ps a u h) (or-swap (equal (p .value) u && applies p a) (equal v u && member c a) (holds ps a u)))
     where
       both : (x m n r : Bool) → (x && (m || n) || r) ≡ (x && n || (x && m || r))
       both false m n r = refl
-      both true true true r = refl
-      both true true false r = refl
-      both true false true r = refl
-      both true false false r = refl
-
-      swap : (x y r : Bool) → (x || (y || r)) ≡ (y || (x || r))
-      swap true true r = refl
-      swap true false r = refl
-      swap false y r = refl
+      both true m n r = or-assoc m n r ∙ or-swap m n r
 
   pub holds-join : (ps : List Pair) (a : ℕ) (u : ℤ) → a < 2 ^ w → holds (join w v c ps) a u ≡ (equal v u && member c a || holds ps a u)
   holds-join ps a u h =
@@ -79,7 +71,7 @@ module _ (w : ℕ) (v : ℤ) (c : ℕ) where
   rises-insert (p ∷ ps) r =
       insert-by (λ s. rises s ≡ true) w v c p ps (λ b. ap₂ _&&_ b r) (λ e. r) (λ b. rises-from (p .value) ps b r)
 
-  pub rises-join : (ps : List Pair) → rises ps ≡ true → rises (join w v c ps) ≡ true
+  rises-join : (ps : List Pair) → rises ps ≡ true → rises (join w v c ps) ≡ true
   rises-join ps r = join-by (λ s. rises s ≡ true) w v c ps (λ e. r) (λ e. rises-insert ps r)
 
   -- ---- what is true of each pair stays so, if it is true of the new one and of a union

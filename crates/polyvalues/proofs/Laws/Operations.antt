@@ -50,7 +50,7 @@ each-append f (x ∷ xs) ys d e = ap₂ _&&_ (and-left (f x) _ d) (each-append f
 
 -- ---- reducing
 
-pub simple-reduce : (w i : ℕ) (b : Bool) (ps : List Pair) → Simple w (reduce w i b ps)
+simple-reduce : (w i : ℕ) (b : Bool) (ps : List Pair) → Simple w (reduce w i b ps)
 unfolding reduce
 simple-reduce w i b ps = simple-simplified w _ (each-changed (ofPlaces w) (λ c. reduced w c i b) (λ p. lt-ltb _ _ (reduced-lt w (assignments p) i b)) ps)
 

@@ -1,7 +1,7 @@
 -- A polyvalue as the code keeps it, and the list of its pairs.
 use mathlib.Core.Path.{_≡_, refl, sym, ap, ap₂, _∙_}
 use mathlib.Core.Bool.{true, _&&_}
-use mathlib.Core.List.{List, [], _∷_, _++_, map}
+use mathlib.Core.List.{List, [], _∷_, _++_}
 use Prim.Native.Nat.{ℕ, zero, suc, _-_, _≤_}
 use native.Mathlib.Omega.{arith}
 use lib.Dec.{eqb, leb}
@@ -17,7 +17,7 @@ use Rattle.polyvalues.specs.Pairs.{assignments, noPair, blank}
 use Rattle.polyvalues.specs.Polyvalues.{each, mostPairs, sound, WellFormed, wellFormed, rowsOf, inUse, tidy, padded, packed, AllRows}
 use Rattle.polyvalues.proofs.Laws.Values.{equal-true}
 use Rattle.polyvalues.proofs.Laws.Holds.{same-pair}
-use Rattle.polyvalues.proofs.Laws.Paired.{rows-packed, values-paired, conditions-paired, rows-long}
+use Rattle.polyvalues.proofs.Laws.Paired.{rows-packed, packed-is, rows-long}
 use Rattle.polyvalues.proofs.Laws.WellFormed.{well-formed-true, true-well-formed}
 
 pub inUse-packed : (ps : List Pair) → inUse (packed ps) ≡ ps
@@ -33,19 +33,16 @@ tidy-packed ps = rw (rows-packed ps, drop-append-seam ps (replicate (mostPairs -
     blanks (suc n) = blanks n
 
 packed-tidy : (q : Polyvalue) → q .count ≤ mostPairs → AllRows q → tidy q ≡ true → packed (inUse q) ≡ q
-unfolding inUse tidy packed
+unfolding inUse tidy
 packed-tidy q c all t =
     let l : length (rowsOf q) ≡ mostPairs = rows-long all in
-    let e : length (q .values) ≡ length (q .conditions) = all .values ∙ sym (all .conditions) in
     let count : length (take (q .count) (rowsOf q)) ≡ q .count = length-take-le (q .count) (rowsOf q) (omega arith) in
     let past : mostPairs - length (take (q .count) (rowsOf q)) ≡ length (drop (q .count) (rowsOf q)) = omega (arith, length-drop (q .count) (rowsOf q)) in
     let rows : padded (take (q .count) (rowsOf q)) ≡ rowsOf q =
     ap (λ n. take (q .count) (rowsOf q) ++ replicate n noPair) past
     ∙ ap (λ r. take (q .count) (rowsOf q) ++ r) (sym (zeros (drop (q .count) (rowsOf q)) t))
     ∙ take-append-drop (q .count) (rowsOf q) in
-    let values : map (λ p. p .value) (padded (take (q .count) (rowsOf q))) ≡ q .values = ap (map (λ p. p .value)) rows ∙ values-paired (q .values) (q .conditions) e in
-    let conditions : map (λ p. p .condition) (padded (take (q .count) (rowsOf q))) ≡ q .conditions = ap (map (λ p. p .condition)) rows ∙ conditions-paired (q .values) (q .conditions) e in
-    λ i. record { count = count i; values = values i; conditions = conditions i }
+    sym (packed-is (take (q .count) (rowsOf q)) (sym count) (all .values ∙ sym (all .conditions)) (sym rows))
   where
     zeros : (ps : List Pair) → each blank ps ≡ true → ps ≡ replicate (length ps) noPair
     zeros [] e = refl

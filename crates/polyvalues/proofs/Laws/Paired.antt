@@ -13,7 +13,7 @@ use Rattle.polyvalues.specs.Pairs.{noPair}
 use Rattle.polyvalues.specs.Polyvalues.{AllRows, mostPairs, paired, padded, rowsOf, packed}
 
 -- the values and the conditions of rows make these rows
-pub paired-of : (ps : List Pair) → paired (map (λ p. p .value) ps) (map (λ p. p .condition) ps) ≡ ps
+paired-of : (ps : List Pair) → paired (map (λ p. p .value) ps) (map (λ p. p .condition) ps) ≡ ps
 paired-of [] = refl
 paired-of (p ∷ ps) = ap (λ (l : List Pair). p ∷ l) (paired-of ps)
 
@@ -32,21 +32,24 @@ paired-set (x ∷ vs) (d ∷ cs) (suc i) v c = ap (λ (l : List Pair). record { 
 
 -- ---- where there are as many conditions as values
 
-pub values-paired : (vs : List ℤ) (cs : List Condition) → length vs ≡ length cs → map (λ p. p .value) (paired vs cs) ≡ vs
+values-paired : (vs : List ℤ) (cs : List Condition) → length vs ≡ length cs → map (λ p. p .value) (paired vs cs) ≡ vs
 values-paired [] cs e = refl
 values-paired (v ∷ vs) [] e = absurd (omega arith)
 values-paired (v ∷ vs) (c ∷ cs) e = ap (λ (l : List ℤ). v ∷ l) (values-paired vs cs (omega arith))
 
-pub conditions-paired : (vs : List ℤ) (cs : List Condition) → length vs ≡ length cs → map (λ p. p .condition) (paired vs cs) ≡ cs
+conditions-paired : (vs : List ℤ) (cs : List Condition) → length vs ≡ length cs → map (λ p. p .condition) (paired vs cs) ≡ cs
 conditions-paired [] [] e = refl
 conditions-paired [] (c ∷ cs) e = absurd (omega arith)
 conditions-paired (v ∷ vs) [] e = absurd (omega arith)
 conditions-paired (v ∷ vs) (c ∷ cs) e = ap (λ (l : List Condition). c ∷ l) (conditions-paired vs cs (omega arith))
 
-pub length-paired : (vs : List ℤ) (cs : List Condition) → length vs ≡ length cs → length (paired vs cs) ≡ length vs
-length-paired [] cs e = refl
-length-paired (v ∷ vs) [] e = absurd (omega arith)
-length-paired (v ∷ vs) (c ∷ cs) e = ap suc (length-paired vs cs (omega arith))
+pub packed-is : (ps : List Pair) {n : ℕ} {vs : List ℤ} {cs : List Condition} → n ≡ length ps → length vs ≡ length cs → paired vs cs ≡ padded ps
+    → _≡_ {A = Polyvalue} (record { count = n; values = vs; conditions = cs }) (packed ps)
+unfolding packed
+packed-is ps {vs = vs} {cs = cs} e l f =
+    let values : vs ≡ map (λ p. p .value) (padded ps) = sym (values-paired vs cs l) ∙ ap (map (λ p. p .value)) f in
+    let conditions : cs ≡ map (λ p. p .condition) (padded ps) = sym (conditions-paired vs cs l) ∙ ap (map (λ p. p .condition)) f in
+    λ i. record { count = e i; values = values i; conditions = conditions i }
 
 pub paired-at : (vs : List ℤ) (cs : List Condition) (i : ℕ) → length vs ≡ length cs
     → getD (paired vs cs) i noPair ≡ record { value = getD vs i (pos 0); condition = getD cs i (ofNumber 0) }
@@ -57,7 +60,7 @@ paired-at (v ∷ vs) (c ∷ cs) zero e = refl
 paired-at (v ∷ vs) (c ∷ cs) (suc i) e = paired-at vs cs i (omega arith)
 
 pub rows-long : {q : Polyvalue} → AllRows q → length (rowsOf q) ≡ mostPairs
-rows-long {q} all = length-paired (q .values) (q .conditions) (all .values ∙ sym (all .conditions)) ∙ all .values
+rows-long {q} all = sym (length-map (rowsOf q) (λ p. p .value)) ∙ ap length (values-paired (q .values) (q .conditions) (all .values ∙ sym (all .conditions))) ∙ all .values
 
 pub packed-rows : (ps : List Pair) → length ps ≤ mostPairs → AllRows (packed ps)
 unfolding packed

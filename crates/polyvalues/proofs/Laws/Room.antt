@@ -10,12 +10,12 @@ use Rattle.conditions.specs.Sets.{digit}
 use Rattle.conditions.specs.Conditions.{reduced, selected}
 use Rattle.conditions.proofs.Laws.Below.{and-left, and-right, by-cases}
 use Rattle.polyvalues.specs.declared.polyvalue.Pair.{Pair}
-use Rattle.polyvalues.specs.Values.{below, equal}
+use Rattle.polyvalues.specs.Values.{equal}
 use Rattle.polyvalues.specs.Polyvalues.{each, risesFrom, rises}
 use Rattle.polyvalues.specs.Simplify.{canonOver, canon}
 use Rattle.polyvalues.specs.Operations.{changed, reduce, select, occurs, different, together}
-use Rattle.polyvalues.proofs.Laws.Values.{equal-refl, equal-true, equal-false, not-equal, below-apart, below-trans}
-use Rattle.polyvalues.proofs.Laws.Holds.{holds, rises-tail}
+use Rattle.polyvalues.proofs.Laws.Values.{equal-refl, equal-true, equal-false, not-equal, below-not}
+use Rattle.polyvalues.proofs.Laws.Holds.{occurs-holds, above-occurs, rises-tail}
 use Rattle.polyvalues.proofs.Laws.Simplify.{each-simplified}
 use Rattle.polyvalues.proofs.Laws.Canon.{holds-canon, simple-over, each-over}
 use Rattle.polyvalues.proofs.Laws.Operations.{each-append, simple-select}
@@ -61,27 +61,26 @@ different-le (p ∷ ps) qs e =
 -- ---- values that rise are all different
 
 rises-once : (v : ℤ) (ps : List Pair) → risesFrom v ps ≡ true → occurs v ps ≡ false
-rises-once v [] r = refl
-rises-once v (p ∷ ps) r =
-    let up : below v (p .value) ≡ true = and-left _ (risesFrom (p .value) ps) r in
-    ap₂ _||_ (not-equal v (p .value) (below-apart v (p .value) up)) (rises-once v ps (above ps up (and-right (below v (p .value)) _ r)))
-  where
-    above : (ps : List Pair) → below v (p .value) ≡ true → risesFrom (p .value) ps ≡ true → risesFrom v ps ≡ true
-    above [] up r = refl
-    above (q ∷ ps) up r =
-        ap₂ _&&_ (below-trans v (p .value) (q .value) up (and-left _ (risesFrom (q .value) ps) r)) (and-right (below (p .value) (q .value)) _ r)
+rises-once v ps r = above-occurs ps v v r (below-not v)
 
 pub different-rising : (ps : List Pair) → rises ps ≡ true → different ps ≡ length ps
 unfolding different
 different-rising [] r = refl
 different-rising (p ∷ ps) r = rw (rises-once (p .value) ps r, different-rising ps (rises-tail (p .value) ps r)) (omega arith)
 
--- ---- as code counts them, where each list has a value once: those of the one that are not in the other, and the other's
+-- ---- the values of two lists
 
 pub occurs-append : (u : ℤ) (ps qs : List Pair) → occurs u (ps ++ qs) ≡ (occurs u ps || occurs u qs)
 occurs-append u [] qs = refl
 occurs-append u (p ∷ ps) qs = rw (occurs-append u ps qs) (sym (or-assoc (equal u (p .value)) (occurs u ps) (occurs u qs)))
 
+pub occurs-first : (u : ℤ) (ps qs : List Pair) → occurs u ps ≡ true → occurs u (ps ++ qs) ≡ true
+occurs-first u ps qs e = rw (occurs-append u ps qs, e)
+
+pub occurs-second : (u : ℤ) (ps qs : List Pair) → occurs u qs ≡ true → occurs u (ps ++ qs) ≡ true
+occurs-second u ps qs e = rw (occurs-append u ps qs, e) (or-true (occurs u ps))
+
+-- where each list has a value once: those of the one that are not in the other, and the other's
 abbrev pub others : List Pair → List Pair → ℕ
 others [] qs = 0
 others (p ∷ ps) qs = digit (not (occurs (p .value) qs)) + others ps qs
@@ -102,6 +101,10 @@ each-occurs f (p ∷ ps) e u o =
     (λ t. rw (equal-true u (p .value) t) (and-left (f (p .value)) _ e))
     (λ t. each-occurs f ps (and-right (f (p .value)) _ e) u (rw t at o))
 
+-- pairs that rise, with values of another list, are no more than it has different ones
+rising-le : (ps qs : List Pair) → rises ps ≡ true → each (λ p. occurs (p .value) qs) ps ≡ true → length ps ≤ different qs
+rising-le ps qs r e = omega (arith, different-rising ps r, different-le ps qs (each-occurs (λ u. occurs u qs) ps e))
+
 -- a change of the conditions leaves the values
 values-changed : (f : ℤ → Bool) (g : ℕ → ℕ) (ps : List Pair) → ((u : ℤ) → occurs u ps ≡ true → f u ≡ true) → each (λ p. f (p .value)) (changed g ps) ≡ true
 values-changed f g [] e = refl
@@ -118,35 +121,18 @@ occurs-reduce w i b ps =
 pub select-count : (w i : ℕ) (done gone : List Pair) → length (select w i done gone) ≤ together done gone
 unfolding select together
 select-count w i done gone =
-    omega (
-      arith,
-      different-rising (select w i done gone) (simple-select w i done gone .rising),
-      different-le (select w i done gone) (done ++ gone)
-          (each-occurs (λ u. occurs u (done ++ gone)) (select w i done gone)
-          (each-simplified w (λ p. occurs (p .value) (done ++ gone)) (λ p q e f. e) _
-          (each-append (λ p. occurs (p .value) (done ++ gone)) (changed (λ c. selected w i c 0) done) _
-          (values-changed (λ u. occurs u (done ++ gone)) (λ c. selected w i c 0) done (λ u o. occurs-append u done gone ∙ rw o))
-          (values-changed (λ u. occurs u (done ++ gone)) (λ c. selected w i 0 c) gone (λ u o. occurs-append u done gone ∙ rw o (or-true (occurs u done))))))),
-    )
+    rising-le (select w i done gone) (done ++ gone) (simple-select w i done gone .rising)
+    (each-simplified w (λ p. occurs (p .value) (done ++ gone)) (λ p q e f. e) _
+    (each-append (λ p. occurs (p .value) (done ++ gone)) (changed (λ c. selected w i c 0) done) _
+    (values-changed (λ u. occurs u (done ++ gone)) (λ c. selected w i c 0) done (λ u. occurs-first u done gone))
+    (values-changed (λ u. occurs u (done ++ gone)) (λ c. selected w i 0 c) gone (λ u. occurs-second u done gone))))
 
 -- ---- a table of values
-
-occurs-holds : (ps : List Pair) (a : ℕ) (u : ℤ) → holds ps a u ≡ true → occurs u ps ≡ true
-occurs-holds [] a u e = e
-occurs-holds (p ∷ ps) a u e =
-    by-cases (equal (p .value) u)
-    (λ t. rw (equal-true (p .value) u t, equal-refl u))
-    (λ t. rw (occurs-holds ps a u (rw t at e)) (or-true (equal u (p .value))))
 
 -- the pairs over some assignments are no more than the different values that all of them have, together with those of another list
 pub over-count : (w : ℕ) (f : ℕ → ℤ) (s : ℕ) (qs : List Pair) → length (canonOver w f s) ≤ together qs (canon w f)
 unfolding together
 over-count w f s qs =
-    omega (
-      arith,
-      different-rising (canonOver w f s) (simple-over w f s .rising),
-      different-le (canonOver w f s) (qs ++ canon w f)
-          (each-occurs (λ u. occurs u (qs ++ canon w f)) (canonOver w f s) (each-over w f s (λ u. occurs u (qs ++ canon w f))
-          (λ a h. occurs-append (f a) qs (canon w f)
-          ∙ rw (occurs-holds (canon w f) a (f a) (holds-canon w f a (f a) h ∙ equal-refl (f a))) (or-true (occurs (f a) qs))))),
-    )
+    rising-le (canonOver w f s) (qs ++ canon w f) (simple-over w f s .rising)
+    (each-over w f s (λ u. occurs u (qs ++ canon w f))
+    (λ a h. occurs-second (f a) qs (canon w f) (occurs-holds (canon w f) a (f a) (holds-canon w f a (f a) h ∙ equal-refl (f a)))))

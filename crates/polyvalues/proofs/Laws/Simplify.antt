@@ -1,6 +1,6 @@
 -- A list of pairs simplified has the same relation of assignments and values, and is simple.
 use mathlib.Core.Path.{_≡_, refl, sym, _∙_}
-use mathlib.Core.Bool.{Bool, true, false, _&&_, _||_, or-false}
+use mathlib.Core.Bool.{Bool, true, _&&_, _||_, or-false, or-assoc}
 use mathlib.Core.List.{List, [], _∷_}
 use Prim.Native.Nat.{ℕ, _+_, _^_, _≤_, _<_}
 use native.Mathlib.Omega.{arith}
@@ -8,7 +8,7 @@ use lib.IntN.{ℤ}
 use lib.ListN.{length}
 use borrow.Author.Tests.{ltb-true}
 use Rattle.conditions.specs.Conditions.{union}
-use Rattle.conditions.proofs.Laws.Below.{and-left, and-right}
+use Rattle.conditions.proofs.Laws.Below.{and-left, and-right, or-swap}
 use Rattle.polyvalues.specs.declared.polyvalue.Pair.{Pair}
 use Rattle.polyvalues.specs.Values.{equal}
 use Rattle.polyvalues.specs.Pairs.{pair, assignments, applies}
@@ -24,13 +24,9 @@ holds-from : (w : ℕ) (qs ps : List Pair) (a : ℕ) (u : ℤ) → a < 2 ^ w →
 unfolding simplifiedFrom
 holds-from w qs [] a u h = sym (or-false (holds qs a u))
 holds-from w qs (p ∷ ps) a u h =
+    let here : Bool = equal (p .value) u && applies p a in
     holds-from w (join w (p .value) (assignments p) qs) ps a u h
-    ∙ rw (holds-join w (p .value) (assignments p) qs a u h) (turn (equal (p .value) u && applies p a) (holds qs a u) (holds ps a u))
-  where
-    turn : (x y r : Bool) → (x || y || r) ≡ (y || (x || r))
-    turn true true r = refl
-    turn true false r = refl
-    turn false y r = refl
+    ∙ rw (holds-join w (p .value) (assignments p) qs a u h) (or-assoc here (holds qs a u) (holds ps a u) ∙ or-swap here (holds qs a u) (holds ps a u))
 
 pub holds-simplified : (w : ℕ) (ps : List Pair) (a : ℕ) (u : ℤ) → a < 2 ^ w → holds (simplified w ps) a u ≡ holds ps a u
 unfolding simplified

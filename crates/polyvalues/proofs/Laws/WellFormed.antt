@@ -64,7 +64,7 @@ at-range (p ∷ ps) a e =
 
 -- ---- what is made is well formed
 
-complete-some : (w : ℕ) (ps : List Pair) → Complete w ps → 1 ≤ length ps
+pub complete-some : (w : ℕ) (ps : List Pair) → Complete w ps → 1 ≤ length ps
 complete-some w [] c = absurd (omega (arith, c .once 0 (pow-pos w)))
 complete-some w (p ∷ ps) c = omega arith
 

@@ -37,7 +37,7 @@ loop-again c =
     let at-loop = c .before .before .loop in (
       omega arith,
       rw add-one (allows-more places _ _ (at-loop .inv .1) (ap (λ (q : ℕ). q % 3) (at-loop .inv .2)) (c .tagged .ensures)),
-      rw add-one (tags-after _ _ (at-loop .inv .2)),
+      tags-after _ _ (at-loop .inv .2),
     )
 
 returns : tie.Need-returns Inv-loop μ-loop

@@ -12,8 +12,7 @@ use Rattle.polyvalues.specs.Pairs.{noPair}
 use Rattle.polyvalues.specs.Polyvalues.{mostPairs, inUse}
 use Rattle.polyvalues.specs.Operations.{occurs}
 use Rattle.polyvalues.proofs.Known.{Held, held-long}
-use Rattle.polyvalues.proofs.Inserting.{in-use-le}
-use Rattle.polyvalues.proofs.Joining.{in-use-row}
+use Rattle.polyvalues.proofs.Inserting.{in-use-le, in-use-row}
 use Rattle.polyvalues.proofs.Comparing.{adds-is}
 use Rattle.polyvalues.proofs.polyvalue.Polyvalue.adds.Statement.{statement}
 use Rattle.polyvalues.proofs.polyvalue.Polyvalue.adds.Tie as tie
