@@ -18,8 +18,8 @@ use Rattle.book.specs.Begin.{heldAt, touchesDistrict, begin}
 use Rattle.book.specs.Shaped.{Shaped}
 use Rattle.book.proofs.Laws.Programs.{run-reads, run-frame}
 use Rattle.book.proofs.Laws.Calls.{begin-tests}
-use Rattle.book.proofs.Laws.Touched.{touched-below}
-use Rattle.book.proofs.Laws.BeginSound.{Begins, touched-district, touched-idle, not-touched}
+use Rattle.book.proofs.Laws.Touched.{touched-below, touched-idle}
+use Rattle.book.proofs.Laws.BeginSound.{Begins, touched-district, not-touched}
 use Rattle.demands.proofs.Events.{begin-values}
 use Rattle.demands.specs.Demands.{pendingAt, Says}
 use Rattle.demands.proofs.Items.{begin-on}
@@ -48,7 +48,7 @@ module _ (w : ℕ) (b : Book) (t : Shaped w b) (g : ℕ → Bool) (a : ℕ) (say
   -- an item of a touched district was on no transaction
   none : (i : ℕ) → touchesDistrict b xs (itemAt b i .district) ≡ true → itemOn b (itemAt b i) ≡ 0
   unfolding itemOn
-  none i k = touched-idle w b sound t xs tests (itemAt b i .district) k .1
+  none i k = touched-idle b xs (sound .belongs) (tests .idles) (itemAt b i .district) k .1
 
   -- so its held value is that of the serial run
   held : (i : ℕ) → i < b .count → touchesDistrict b xs (itemAt b i .district) ≡ true → heldAt b a i ≡ s i

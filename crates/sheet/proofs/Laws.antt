@@ -1,4 +1,4 @@
--- What is true of the definitions in specs/. The crates above cite these laws and open no definition.
+-- What is true of the definitions in specs/. The crates above cite these laws.
 pub mod Show
 pub mod Open
 pub mod Places

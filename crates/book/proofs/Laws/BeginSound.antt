@@ -33,7 +33,7 @@ use Rattle.book.specs.Begin.{badStep, outside, heldAt, results, someBusy
 use Rattle.book.specs.Sound.{Sound}
 use Rattle.book.proofs.Laws.Rows.{length-rows, getD-rows, past-rows, each-row, getD-set}
 use Rattle.book.proofs.Laws.Programs.{run-reads, run-range}
-use Rattle.book.proofs.Laws.Touched.{touched-below, touched-idle as district-idle}
+use Rattle.book.proofs.Laws.Touched.{touched-below, touched-idle}
 use Rattle.book.proofs.Laws.Sound.{place-named}
 use Rattle.book.specs.Shaped.{ShapedItem, Shaped}
 use Rattle.book.proofs.Laws.Values.{begin-item}
@@ -190,19 +190,16 @@ module _ (w : ℕ) (b : Book) (sound : Sound w b) (t : Shaped w b) (xs : List St
   unfolding beginItem
   itemElse i x k = rw k
 
-  -- a touched item's district is touched, and all its items were on no transaction
+  -- a touched item's district is touched
   pub touched-district : (i : ℕ) → touches xs i ≡ true → touchesDistrict b xs (itemAt b i .district) ≡ true
   unfolding touchesDistrict
   touched-district i k =
       any-of (b .count) (λ m. touches xs m && eqb (itemAt b m .district) (itemAt b i .district)) i (below i k)
       (ap₂ _&&_ k (eq-eqb (itemAt b i .district) (itemAt b i .district) refl))
 
-  pub touched-idle : (e : ℕ) → touchesDistrict b xs e ≡ true → (e < b .districts) × (recordOn (recordAt b e) ≡ 0)
-  touched-idle e k = district-idle b xs (sound .belongs) (f .idles) e k
-
   onNew : (x : Item) → touchesDistrict b xs (x .district) ≡ true → itemOn c x ≡ n
   unfolding itemOn recordOn
-  onNew x k = rw (begin-records (x .district) (touched-idle (x .district) k .0), k)
+  onNew x k = rw (begin-records (x .district) (touched-idle b xs (sound .belongs) (f .idles) (x .district) k .0), k)
 
   onOld : (x : Item) → x .district < b .districts → touchesDistrict b xs (x .district) ≡ false → itemOn c x ≡ itemOn b x
   unfolding itemOn
@@ -259,7 +256,7 @@ module _ (w : ℕ) (b : Book) (sound : Sound w b) (t : Shaped w b) (xs : List St
 
   rowNew : OpenRow (b .districts) n new
   rowNew = record {
-    touched = setOf-below mostDistricts (b .districts) (touchesDistrict b xs) (sound .fewDistricts) (λ d h k. touched-idle d k .0);
+    touched = setOf-below mostDistricts (b .districts) (touchesDistrict b xs) (sound .fewDistricts) (λ d h k. touched-idle b xs (sound .belongs) (f .idles) d k .0);
     ready = pow-pos (b .districts);
     gave = pow-pos (b .districts);
     decisions = omega arith;
