@@ -22,7 +22,7 @@ mostDistricts = 8
 abbrev pub mostItems : ℕ
 mostItems = 32
 
--- "1 to 8 districts, 1 to 32 items": so many districts, and so many items
+-- "1 to 8 districts, 1 to 32 items": a book may have so many districts and so many items
 abbrev pub goodCounts : ℕ → ℕ → Bool
 goodCounts districts items = leb 1 districts && leb districts mostDistricts && leb 1 items && leb items mostItems
 
@@ -113,7 +113,7 @@ named n o = isOpen o && eqb (o .number .0) n
 unfoldable pub placeOf : ℕ → Book → ℕ → ℕ
 placeOf w b n = first w (λ q. named n (openAt b q))
 
--- the row of that transaction; where there is none, the row past the places, which holds zeros in a table of w rows
+-- the row of that transaction; where there is none, what is read at w: zeros, if the table has w rows
 abbrev pub openOf : ℕ → Book → ℕ → Open
 openOf w b n = openAt b (placeOf w b n)
 

@@ -16,7 +16,7 @@ decided o = not (eqb (o .decision) 0)
 unfoldable pub needed : ℕ → Book → ℕ → Open → Bool
 needed w b q o = someOn b (o .number .0) || someDepends w b q
 
--- it stays open: it is not decided, or needed
+-- it stays open: it is undecided, or it is needed
 unfoldable pub kept : ℕ → Book → ℕ → Open → Bool
 kept w b q o = not (decided o) || needed w b q o
 

@@ -15,7 +15,7 @@ use Rattle.book.specs.declared.Item.{Item}
 use Rattle.book.specs.declared.Opening.{Opening}
 use Rattle.book.specs.Book.{mostDistricts, mostItems, goodCounts, noRecord, noItem, noOpen, noBook}
 
--- an opening past the count
+-- an opening of zeros: what is read past the end of a list
 abbrev pub noOpening : Opening
 noOpening = record { district = 0; value = pos 0 }
 

@@ -19,7 +19,7 @@ use Rattle.book.specs.Book.{mostDistricts, recordAt, openAt, isOpen, placeOf, f
 use Rattle.book.specs.Programs.{steps}
 use Rattle.book.specs.Records.{computingOn, waitingOn, busyOn}
 use Rattle.book.specs.Forget.{decided}
-use Rattle.book.specs.Begin.{newRow, begin}
+use Rattle.book.specs.Begin.{begin}
 use Rattle.book.specs.Ready.{reported, ready}
 use Rattle.book.specs.GiveUp.{marked, giveUp}
 use Rattle.book.specs.Decide.{withDecision, complete, abort}
@@ -30,6 +30,7 @@ use Rattle.book.proofs.Laws.But.{place-open, computing-on, busy-is}
 use Rattle.book.proofs.Laws.Calls.{GivesUp, ready-tests, give-up-tests, complete-tests, abort-tests}
 use Rattle.demands.specs.Calls.{Call, beginsWith, readies, givesUp, completes, aborts, hears, answerTo}
 use Rattle.demands.specs.Past.{Said, said, asksReady, asksComplete, asksAbort, ever, wasReady, givesUpEarly, wasGivenUp, began}
+use Rattle.demands.specs.Demands.{newRow}
 use Rattle.demands.proofs.Tables.{ready-acts, give-up-acts, complete-acts, abort-acts, hear-acts, begin-last, begin-districts, begin-places}
 use Rattle.demands.proofs.Ledger.{ever-now, silent-same, Same, Marks, Turns, same-still, same-marks, Ledger, row-marks, acts-ledger}
 

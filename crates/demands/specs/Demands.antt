@@ -9,7 +9,7 @@ use lib.IntN.{ℤ}
 use lib.ListN.{length, getD}
 use Rattle.conditions.specs.declared.condition.Condition.{Condition}
 use Rattle.conditions.specs.declared.product.Product.{Product}
-use Rattle.conditions.specs.Sets.{member}
+use Rattle.conditions.specs.Sets.{member, setOf}
 use Rattle.conditions.specs.Places.{places, withPlace}
 use Rattle.conditions.specs.Conditions.{number}
 use Rattle.conditions.specs.Text.{bytes as bytesOf}
@@ -24,8 +24,9 @@ use Rattle.book.specs.declared.Book.{Book}
 use Rattle.book.specs.declared.Open.{Open}
 use Rattle.book.specs.declared.Opening.{Opening}
 use Rattle.book.specs.declared.Record.{Record}
+use Rattle.book.specs.declared.Step.{Step}
 use Rattle.book.specs.Answers.{answerNumber, accepted}
-use Rattle.book.specs.Book.{lastNumber, noRecord, noBook, recordAt, itemAt, openAt, idle, isOpen, placeOf, freePlace, someDepends, someOn, openOf}
+use Rattle.book.specs.Book.{mostDistricts, lastNumber, noRecord, noBook, recordAt, itemAt, openAt, idle, isOpen, placeOf, freePlace, someDepends, someOn, openOf}
 use Rattle.book.specs.Programs.{steps, run, touches, someStep}
 use Rattle.book.specs.Items.{there}
 use Rattle.book.specs.Records.{computingOn, busyOn, beginRecord, readyRecord, hearRecord}
@@ -34,7 +35,7 @@ use Rattle.book.specs.Transactions.{unsound, notOpen, noDistrict}
 use Rattle.book.specs.Open.{noOpening, goodOpening, opened}
 use Rattle.book.specs.Sound.{Sound}
 use Rattle.book.specs.SoundTest.{sound}
-use Rattle.book.specs.Begin.{badProgram, outside, heldAt, grant, someBusy, tooMany, touchesDistrict, newRow, begin}
+use Rattle.book.specs.Begin.{badProgram, outside, heldAt, grant, someBusy, tooMany, touchesDistrict, begin}
 use Rattle.book.specs.Ready.{reported}
 use Rattle.book.specs.GiveUp.{marked}
 use Rattle.book.specs.Decide.{someNotReady, withDecision}
@@ -155,6 +156,10 @@ setAt w b n a = withPlace w a (placeOf w b n) (outcome (openOf w b n))
 abbrev pub heardAt : ℕ → Book → ℕ → ℕ → (ℕ → ℕ → ℤ) → ℕ → ℕ → ℤ
 heardAt w b n d old a i =
     cond (busyOn n (recordAt b d)) (cond (outcome (openOf w b n)) (pendingAt b (setAt w b n a) i) (heldAt b (setAt w b n a) i)) (old (setAt w b n a) i)
+
+-- "An open transaction keeps its touched districts, those that reported ready, those that gave up before ready, and its decision": that of a program of these steps, as it begins
+abbrev pub newRow : Book → List Step → Open
+newRow b xs = record { number = record { 0 = suc (b .last .0) }; touched = setOf mostDistricts (touchesDistrict b xs); ready = 0; gave = 0; decision = 0 }
 
 -- the row at place q where that at place p becomes o
 abbrev pub rowWith : Book → ℕ → Open → ℕ → Open

@@ -70,7 +70,7 @@ asksAbort n (shows i buf) = false
 
 -- ---- what has happened: of refused calls nothing
 
--- an accepted call of the past, with those before it, asked this
+-- an accepted call of the past asked this, given the calls before it
 unfoldable pub ever : (List Said → Call → Bool) → List Said → Bool
 ever asks [] = false
 ever asks (x ∷ before) = accepted (x .answer) && asks before (x .call) || ever asks before

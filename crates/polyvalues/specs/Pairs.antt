@@ -49,7 +49,7 @@ hits (p ∷ ps) a = digit (applies p a) + hits ps a
 abbrev pub only : ℕ → ℕ → ℕ → ℤ → Option ℤ
 only w a n v = cond (ltb a (2 ^ w) && eqb n 1) (some v) none
 
--- the value that a list of pairs has under a, if it is not refused
+-- "A lent list of pairs can be asked for its value under one assignment."
 unfoldable pub asked : ℕ → List Pair → ℕ → Option ℤ
 asked w ps a = only w a (hits ps a) (at ps a)
 

@@ -98,7 +98,7 @@ impl Polyvalue {
         }
     }
 
-    // No pairs, which others are joined into.
+    // No pairs: others are joined into it, and rows past a book's counts hold it.
     pub fn nothing() -> Polyvalue
         ensures { λ r. ⌜ r ≡ packed [] ⌝ }
     {
