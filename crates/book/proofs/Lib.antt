@@ -1,2 +1,18 @@
 pub mod Laws
-pub mod Ties
+mod Lent
+mod States
+mod Naming
+mod Reading
+mod Running
+mod Testing
+mod Known
+mod Loops
+mod Districts
+mod Doing
+mod Filling
+mod Making
+mod Showing
+mod Depended
+mod Working
+mod Touching
+mod Beginning

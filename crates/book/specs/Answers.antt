@@ -1,7 +1,7 @@
 -- "Every refusal returns its number" and "Order: 15 first. .." (document 01, Answer numbers)
 use Rattle.std.specs.Prelude.{Bool, cond, List, [], ◌∷◌, ℕ, eqb}
-use Rattle.book.specs.declared.answers.Answer.{Answer}
-use Rattle.book.specs.declared.answers.Answer.TheVariants.{Accepted, NoDistrict, NoItem, BadProgram, NotOpen, NotIdle, AllOpen, NumbersGiven, TooManyValues, NotOnIt, AlreadyDecided, NotReady, NotDecided, Malformed, TooLong, Unsound, ShortBuffer}
+use Rattle.book.specs.declared.Answer.{Answer}
+use Rattle.book.specs.declared.Answer.TheVariants.{Accepted, NoDistrict, NoItem, BadProgram, NotOpen, NotIdle, AllOpen, NumbersGiven, TooManyValues, NotOnIt, AlreadyDecided, NotReady, NotDecided, Malformed, TooLong, Unsound, ShortBuffer}
 
 -- the document's number for each answer
 abbrev pub answer_number : Answer → ℕ

@@ -5,15 +5,18 @@ use Rattle.conditions.specs.Places.{with_place}
 use Rattle.polyvalues.specs.declared.polyvalue.Polyvalue.{Polyvalue}
 use Rattle.polyvalues.specs.Pairs.{depends}
 use Rattle.polyvalues.specs.Polyvalues.{in_use, packed}
-use Rattle.book.specs.declared.types.Record.{Record}
-use Rattle.book.specs.declared.types.Item.{Item}
-use Rattle.book.specs.declared.types.Open.{Open}
-use Rattle.book.specs.declared.types.Book.{Book}
-use Rattle.programs.specs.States.{most_items}
+use Rattle.book.specs.declared.Record.{Record}
+use Rattle.book.specs.declared.Item.{Item}
+use Rattle.book.specs.declared.Open.{Open}
+use Rattle.book.specs.declared.Book.{Book}
 
 -- "1 to 8 districts"
 abbrev pub most_districts : ℕ
 most_districts = 8
+
+-- "1 to 32 items"
+abbrev pub most_items : ℕ
+most_items = 32
 
 -- "1 to 8 districts, 1 to 32 items": a book may have so many districts and so many items
 abbrev pub good_counts : ℕ → ℕ → Bool
@@ -145,9 +148,3 @@ with_items b t = record { last = b.last; districts = b.districts; records = b.re
 -- its places
 abbrev pub with_open : Book → List Open → Book
 with_open b t = record { last = b.last; districts = b.districts; records = b.records; count = b.count; items = b.items; «open» = t }
-
--- ---- an item with its polyvalues changed
-
--- an item with these polyvalues
-abbrev pub becomes : Item → Polyvalue → Polyvalue → Item
-becomes x held pending = record { district = x.district; held = held; pending = pending }

@@ -1,8 +1,8 @@
 -- "Forgetting. At the end of each accepted event, a decided transaction is closed, and its place freed, exactly when no district is on it and no held or pending
 -- polyvalue depends on it." (document 01, Events)
 use Rattle.std.specs.Prelude.{Bool, not, ◌||◌, cond, ℕ, eqb}
-use Rattle.book.specs.declared.types.Open.{Open}
-use Rattle.book.specs.declared.types.Book.{Book}
+use Rattle.book.specs.declared.Open.{Open}
+use Rattle.book.specs.declared.Book.{Book}
 use Rattle.book.specs.Rows.{rows}
 use Rattle.book.specs.Book.{no_open, some_depends, some_on, with_open}
 

@@ -5,11 +5,10 @@ use Rattle.polyvalues.specs.declared.polyvalue.Polyvalue.{Polyvalue}
 use Rattle.polyvalues.specs.Values.{in_range}
 use Rattle.polyvalues.specs.Pairs.{certain}
 use Rattle.polyvalues.specs.Polyvalues.{each, packed}
-use Rattle.book.specs.declared.types.Book.{Book}
-use Rattle.book.specs.declared.types.Item.{Item}
-use Rattle.book.specs.declared.maker.Opening.{Opening}
-use Rattle.book.specs.Book.{most_districts, good_counts, no_record, no_item, no_open, no_book}
-use Rattle.programs.specs.States.{most_items}
+use Rattle.book.specs.declared.Book.{Book}
+use Rattle.book.specs.declared.Item.{Item}
+use Rattle.book.specs.declared.Opening.{Opening}
+use Rattle.book.specs.Book.{most_districts, most_items, good_counts, no_record, no_item, no_open, no_book}
 
 -- an opening of zeros: what is read past the end of a list
 abbrev pub no_opening : Opening

@@ -1,10 +1,9 @@
 -- The items of a book that is to be opened as the code keeps them, in rows. Any count and any rows may be handed in.
 use Rattle.std.specs.Prelude.{cond, List, ℕ, leb, take}
-use Rattle.book.specs.declared.types.Book.{Book}
-use Rattle.book.specs.declared.maker.Opening.{Opening}
+use Rattle.book.specs.declared.Book.{Book}
+use Rattle.book.specs.declared.Opening.{Opening}
 use Rattle.book.specs.declared.maker.Openings.{Openings}
-use Rattle.programs.specs.States.{most_items}
-use Rattle.book.specs.Book.{no_book}
+use Rattle.book.specs.Book.{most_items, no_book}
 use Rattle.book.specs.Open.{opened}
 
 -- the items that count

@@ -1,6 +1,6 @@
 -- "Within an event, the step on a district's record is lent that record alone and changes only that record's phase and transaction." (document 01, The book)
 use Rattle.std.specs.Prelude.{Bool, ◌&&◌, ◌||◌, cond, ℕ, eqb}
-use Rattle.book.specs.declared.types.Record.{Record}
+use Rattle.book.specs.declared.Record.{Record}
 use Rattle.book.specs.Book.{no_record, computing, waiting}
 
 -- the district is computing on the transaction number n

@@ -2,10 +2,9 @@
 -- a book of these definitions might not, and so it stands beside `Sound` in what is said of every book.
 use Rattle.std.specs.Prelude.{◌≡◌, ℕ, ◌<◌, length}
 use Rattle.polyvalues.specs.Polyvalues.{AllRows}
-use Rattle.book.specs.declared.types.Item.{Item}
-use Rattle.book.specs.declared.types.Book.{Book}
-use Rattle.book.specs.Book.{most_districts, item_at}
-use Rattle.programs.specs.States.{most_items}
+use Rattle.book.specs.declared.Item.{Item}
+use Rattle.book.specs.declared.Book.{Book}
+use Rattle.book.specs.Book.{most_districts, most_items, item_at}
 use Rattle.book.specs.Sound.{Sound}
 
 -- an item's two polyvalues

@@ -4,14 +4,14 @@ use Rattle.conditions.specs.Written.{room, written}
 use Rattle.polyvalues.specs.declared.polyvalue.Polyvalue.{Polyvalue}
 use Rattle.polyvalues.specs.Text.{line_text}
 use Rattle.polyvalues.specs.Polyvalues.{in_use}
-use Rattle.book.specs.declared.answers.Answer.{Answer}
-use Rattle.book.specs.declared.answers.Answer.TheVariants.{Accepted, NoItem, Unsound, ShortBuffer}
-use Rattle.book.specs.declared.types.Book.{Book}
-use Rattle.book.specs.declared.types.Open.{Open}
-use Rattle.book.specs.declared.show.Shown.{Shown}
+use Rattle.book.specs.declared.Answer.{Answer}
+use Rattle.book.specs.declared.Answer.TheVariants.{Accepted, NoItem, Unsound, ShortBuffer}
+use Rattle.book.specs.declared.Book.{Book}
+use Rattle.book.specs.declared.Open.{Open}
+use Rattle.book.specs.declared.Shown.{Shown}
 use Rattle.book.specs.Answers.{accepted, first_of}
 use Rattle.book.specs.Book.{no_open, item_at}
-use Rattle.book.specs.SoundTest.{unsound}
+use Rattle.book.specs.Transactions.{unsound}
 
 -- "Tags print .. as T and the transaction number": the number of the transaction at place q
 abbrev pub tag_number : List Open → ℕ → ℕ

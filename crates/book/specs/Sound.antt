@@ -3,12 +3,11 @@ use Rattle.std.specs.Prelude.{◌≡◌, true, false, ℕ, ◌^◌, ◌≤◌, �
 use Rattle.conditions.specs.Sets.{member}
 use Rattle.polyvalues.specs.Polyvalues.{most_pairs, in_use, sound as sound_polyvalue}
 use Rattle.polyvalues.specs.Operations.{together}
-use Rattle.book.specs.declared.types.Record.{Record}
-use Rattle.book.specs.declared.types.Item.{Item}
-use Rattle.book.specs.declared.types.Open.{Open}
-use Rattle.book.specs.declared.types.Book.{Book}
-use Rattle.book.specs.Book.{most_districts, last_number, no_record, no_item, no_open, record_at, item_at, open_at, idle, item_on, is_open, place_of, open_of, item_depends, some_depends}
-use Rattle.programs.specs.States.{most_items}
+use Rattle.book.specs.declared.Record.{Record}
+use Rattle.book.specs.declared.Item.{Item}
+use Rattle.book.specs.declared.Open.{Open}
+use Rattle.book.specs.declared.Book.{Book}
+use Rattle.book.specs.Book.{most_districts, most_items, last_number, no_record, no_item, no_open, record_at, item_at, open_at, idle, item_on, is_open, place_of, open_of, item_depends, some_depends}
 use Rattle.book.specs.Forget.{needed}
 
 -- something holds of each district and its record

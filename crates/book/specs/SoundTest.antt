@@ -8,12 +8,11 @@ use Rattle.polyvalues.specs.declared.polyvalue.Polyvalue.{Polyvalue}
 use Rattle.polyvalues.specs.Polyvalues.{most_pairs, in_use, sound as sound_polyvalue}
 use Rattle.polyvalues.specs.Operations.{same_rows, together}
 use Rattle.polyvalues.specs.Values.{equal}
-use Rattle.book.specs.declared.types.Record.{Record}
-use Rattle.book.specs.declared.types.Item.{Item}
-use Rattle.book.specs.declared.types.Open.{Open}
-use Rattle.book.specs.declared.types.Book.{Book}
-use Rattle.book.specs.Book.{most_districts, good_counts, last_number, no_item, record_at, item_at, open_at, idle, waiting, item_on, is_open, place_of, item_depends, some_depends}
-use Rattle.programs.specs.States.{most_items}
+use Rattle.book.specs.declared.Record.{Record}
+use Rattle.book.specs.declared.Item.{Item}
+use Rattle.book.specs.declared.Open.{Open}
+use Rattle.book.specs.declared.Book.{Book}
+use Rattle.book.specs.Book.{most_districts, most_items, good_counts, last_number, no_item, record_at, item_at, open_at, idle, waiting, item_on, is_open, place_of, item_depends, some_depends}
 use Rattle.book.specs.Forget.{kept}
 
 -- a test that matters only where another holds
@@ -110,7 +109,3 @@ sound_place w b q =
 unfoldable pub sound : ℕ → Book → Bool
 sound w b =
     good_counts b.districts b.count && leb b.last.0 last_number && all most_districts (sound_district w b) && all most_items (sound_item w b) && all w (sound_place w b)
-
--- "15: the book handed in is not sound"
-abbrev pub unsound : ℕ → Book → Bool
-unsound w b = not (sound w b)

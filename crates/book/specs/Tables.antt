@@ -1,7 +1,7 @@
 -- As the code hands a book's small tables on: all of it but the items, and the set of the places that these depend on.
 use Rattle.std.specs.Prelude.{◌≡◌, ℕ, ◌<◌}
 use Rattle.conditions.specs.Sets.{member}
-use Rattle.book.specs.declared.types.Book.{Book}
+use Rattle.book.specs.declared.Book.{Book}
 use Rattle.book.specs.declared.tables.Tables.{Tables}
 use Rattle.book.specs.Book.{some_depends}
 

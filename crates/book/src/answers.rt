@@ -2,27 +2,7 @@
 ghost use Rattle.std.specs.Prelude.{◌≡◌};
 ghost use Rattle.book.specs.Answers.{answer_number};
 
-// What a call answers.
-#[derive(Drop)]
-pub enum Answer {
-    Accepted,
-    NoDistrict,
-    NoItem,
-    BadProgram,
-    NotOpen,
-    NotIdle,
-    AllOpen,
-    NumbersGiven,
-    TooManyValues,
-    NotOnIt,
-    AlreadyDecided,
-    NotReady,
-    NotDecided,
-    Malformed,
-    TooLong,
-    Unsound,
-    ShortBuffer,
-}
+use crate::Answer;
 
 impl Answer {
     // Its number.

@@ -2,14 +2,14 @@
 ghost use Rattle.std.specs.Prelude.{◌≡◌, cond, ℕ, ◌<◌, ltb};
 ghost use Rattle.conditions.specs.Below.{all};
 ghost use Rattle.conditions.specs.Places.{places as Places·places};
-ghost use Rattle.book.specs.declared.types.Book.{Book};
+ghost use Rattle.book.specs.declared.Book.{Book};
 ghost use Rattle.book.specs.Book.{most_districts};
 ghost use Rattle.book.specs.Tables.{TablesOf};
 ghost use Rattle.book.specs.SoundTest.{zero_record, sound_busy, sound_record, sound_district};
 
 use crate::sets::has;
-use crate::tables::{Tables, place_of};
-use crate::types::{DISTRICTS, Open, Record};
+use crate::tables::{DISTRICTS, Tables, place_of};
+use crate::{Open, Record};
 use conditions::PLACES;
 
 // Whether a record holds zeros.
@@ -50,7 +50,7 @@ fn sound_record(places: [Open; PLACES], d: usize, x: Record) -> bool
         return x.transaction.0 == 0;
     }
     let n = x.transaction;
-    let q = place_of(places, n).0;
+    let q = place_of(places, n);
     if PLACES <= q {
         return false;
     }

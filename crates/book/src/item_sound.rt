@@ -4,13 +4,13 @@ ghost use Rattle.conditions.specs.Sets.{set_of};
 ghost use Rattle.conditions.specs.Places.{places as Places·places};
 ghost use Rattle.polyvalues.specs.Polyvalues.{most_pairs, in_use, sound as sound_polyvalue};
 ghost use Rattle.polyvalues.specs.Operations.{together};
-ghost use Rattle.book.specs.declared.types.Book.{Book};
+ghost use Rattle.book.specs.declared.Book.{Book};
 ghost use Rattle.book.specs.Book.{no_item, place_of, item_depends};
 ghost use Rattle.book.specs.SoundTest.{same_polyvalue, same_item, sound_row};
 
 use crate::sets::has;
-use crate::tables::{district_on, place_of};
-use crate::types::{DISTRICTS, Item, Open, Record};
+use crate::tables::{DISTRICTS, district_on, place_of};
+use crate::{Item, Open, Record};
 use conditions::{PLACES, TransactionNumber};
 use polyvalues::{PAIRS, Polyvalue};
 
@@ -54,8 +54,8 @@ fn sound_idle(x: Item) -> bool
 
 // Whether an item of a district that is on the transaction number n is sound: that transaction's place
 // is none of those that it depends on, its places.
-fn sound_taken(places: [Open; PLACES], n: TransactionNumber, x: Item, its: u8) -> bool
-    ensures { (b : Book) → b.«open» ≡ places → its ≡ set_of Places·places (item_depends Places·places x) → result ≡ (sound_polyvalue Places·places x.held && sound_polyvalue Places·places x.pending && not (item_depends Places·places x (place_of Places·places b n.0)) && leb (together (in_use x.held) (in_use x.pending)) most_pairs) }
+fn sound_taken(places: [Open; PLACES], n: u16, x: Item, its: u8) -> bool
+    ensures { (b : Book) → b.«open» ≡ places → its ≡ set_of Places·places (item_depends Places·places x) → result ≡ (sound_polyvalue Places·places x.held && sound_polyvalue Places·places x.pending && not (item_depends Places·places x (place_of Places·places b n)) && leb (together (in_use x.held) (in_use x.pending)) most_pairs) }
 {
     if !x.held.is_sound() {
         return false;
@@ -63,8 +63,8 @@ fn sound_taken(places: [Open; PLACES], n: TransactionNumber, x: Item, its: u8) -
     if !x.pending.is_sound() {
         return false;
     }
-    let q = place_of(places, n);
-    if has(its, q.0) {
+    let q = place_of(places, TransactionNumber(n));
+    if has(its, q) {
         return false;
     }
     x.held.together(x.pending) <= PAIRS
@@ -85,7 +85,7 @@ pub(crate) fn sound_row(
         return false;
     }
     let n = district_on(records, district);
-    if n.0 == 0 {
+    if n == 0 {
         return sound_idle(x);
     }
     sound_taken(places, n, x, its)

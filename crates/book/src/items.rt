@@ -1,58 +1,128 @@
-// What an item depends on.
-ghost use Rattle.std.specs.Prelude.{◌≡◌, true, false, ℕ};
+// What events do to one item.
+ghost use Rattle.std.specs.Prelude.{◌≡◌, cond, ◌≤◌};
 ghost use Rattle.conditions.specs.Places.{places};
-ghost use Rattle.conditions.specs.Sets.{set_of};
-ghost use Rattle.polyvalues.specs.Pairs.{depends};
-ghost use Rattle.polyvalues.specs.Polyvalues.{in_use};
-ghost use Rattle.book.specs.Book.{item_depends};
+ghost use Rattle.polyvalues.specs.Polyvalues.{most_pairs, in_use};
+ghost use Rattle.polyvalues.specs.Operations.{together};
+ghost use Rattle.book.specs.declared.Book.{Book};
+ghost use Rattle.book.specs.Items.{concerned, install, drop, split, reduce_item};
+ghost use Rattle.book.specs.GiveUp.{give_up_item};
+ghost use Rattle.book.specs.Hear.{hear_item};
 
-use crate::types::Item;
-use conditions::{Condition, Place};
+use crate::tables::{DISTRICTS, district_on};
+use crate::{Item, Record};
+use conditions::{Place, TransactionNumber};
 use polyvalues::Polyvalue;
 
-// Whether a polyvalue is one pair that always applies: such a one depends on no place.
-fn is_certain(p: Polyvalue) -> bool
-    ensures { result ≡ true → (q : ℕ) → depends places (in_use p) q ≡ false }
+// Whether the item is in the district and on the transaction.
+fn is_concerned(x: Item, records: [Record; DISTRICTS], n: TransactionNumber, d: u8) -> bool
+    ensures { (b : Book) → b.records ≡ records → result ≡ concerned b n.0 d x }
 {
-    if p.count != 1 {
+    if x.district != d {
         return false;
     }
-    let condition = p.conditions[0];
-    condition.same(Condition::FULL)
+    let on = district_on(records, x.district);
+    on == n.0
 }
 
-impl Item {
-    // Whether its held or pending polyvalue depends on the place.
-    pub fn depends(self, q: Place) -> bool
-        ensures { result ≡ item_depends places self q.0 }
-    {
-        if self.held.depends(q) {
-            return true;
-        }
-        self.pending.depends(q)
-    }
+// Pending is held.
+fn installed(x: Item) -> Item
+    ensures { result ≡ install x }
+{
+    let pending = x.pending;
+    let mut y = x;
+    y.held = pending;
+    y
+}
 
-    // Whether both are one pair that always applies.
-    fn is_sure(self) -> bool
-        ensures { result ≡ true → (q : ℕ) → item_depends places self q ≡ false }
-    {
-        let held = self.held;
-        if !is_certain(held) {
-            return false;
-        }
-        let pending = self.pending;
-        is_certain(pending)
-    }
+// Pending is dropped.
+fn dropped(x: Item) -> Item
+    ensures { result ≡ drop x }
+{
+    let held = x.held;
+    let mut y = x;
+    y.pending = held;
+    y
+}
 
-    // The set of the places that it depends on.
-    pub(crate) fn places(self) -> u8
-        ensures { result ≡ set_of places (item_depends places self) }
-    {
-        if self.is_sure() {
-            return 0;
-        }
-        let held = self.held.places();
-        let pending = self.pending.places();
-        held | pending
+// Pending where the transaction at the place completes, held where it aborts.
+fn split(x: Item, q: Place) -> Item
+    requires { together (in_use x.pending) (in_use x.held) ≤ most_pairs }
+    ensures { result ≡ split places q.0 x }
+{
+    let either = Polyvalue::select(q, x.pending, x.held);
+    let both = either.polyvalue;
+    let mut y = x;
+    y.held = both;
+    y.pending = both;
+    y
+}
+
+// Both with the place set to the outcome.
+fn reduced(x: Item, q: Place, outcome: bool) -> Item
+    ensures { result ≡ reduce_item places q.0 outcome x }
+{
+    let held = x.held.reduce(q, outcome);
+    let pending = x.pending.reduce(q, outcome);
+    let mut y = x;
+    y.held = held;
+    y.pending = pending;
+    y
+}
+
+// Where the item is concerned, pending is held or is dropped.
+fn settled(
+    x: Item,
+    records: [Record; DISTRICTS],
+    n: TransactionNumber,
+    d: u8,
+    completed: bool,
+) -> Item
+    ensures { (b : Book) → b.records ≡ records → result ≡ cond (concerned b n.0 d x) (cond completed (install x) (drop x)) x }
+{
+    if !is_concerned(x, records, n, d) {
+        return x;
     }
+    if completed {
+        return installed(x);
+    }
+    dropped(x)
+}
+
+// The item when the district hears the outcome of the transaction at the place.
+pub(crate) fn heard(
+    x: Item,
+    records: [Record; DISTRICTS],
+    n: TransactionNumber,
+    d: u8,
+    q: Place,
+    completed: bool,
+) -> Item
+    ensures { (b : Book) → b.records ≡ records → result ≡ hear_item places b n.0 d q.0 completed x }
+{
+    if x.district != d {
+        return x;
+    }
+    let y = settled(x, records, n, d, completed);
+    reduced(y, q, completed)
+}
+
+// The item when the district gives up on it, from computing or from waiting.
+pub(crate) fn given_up(
+    x: Item,
+    records: [Record; DISTRICTS],
+    n: TransactionNumber,
+    d: u8,
+    q: Place,
+    computing: bool,
+) -> Item
+    requires { together (in_use x.pending) (in_use x.held) ≤ most_pairs }
+    ensures { (b : Book) → b.records ≡ records → result ≡ give_up_item places b n.0 d q.0 computing x }
+{
+    if !is_concerned(x, records, n, d) {
+        return x;
+    }
+    if computing {
+        return dropped(x);
+    }
+    split(x, q)
 }

@@ -1,25 +1,127 @@
-// The book: districts, items and open transactions; whether it is sound, forgetting, opening and showing.
+// The book: districts, items and open transactions, and the events on them.
 //
 // Every public function is proved to return what its definition in `specs/` says, for every argument:
 // any book may be handed in. No public function has a `requires`, and nothing is assumed.
+mod alternatives;
 mod answers;
+mod begin;
+mod decide;
 mod district_sound;
-mod forgetting;
+mod forget;
+mod give_up;
+mod hear;
 mod item_sound;
 mod items;
 mod maker;
 mod place_sound;
+mod program;
+mod ready;
 mod records;
 mod sets;
 mod show;
 mod sound;
+mod state;
+mod steps;
 mod tables;
-mod types;
+mod touched;
 
-pub use answers::Answer;
-pub use forgetting::forget;
-pub use maker::{Opening, Openings, opened, zero_book};
-pub use sets::{has, including};
-pub use show::Shown;
-pub use tables::{FREE, district_on, free_place, open_at, place_of, record_at, some_on};
-pub use types::{Book, DISTRICTS, Item, Open, Record};
+use conditions::{PLACES, TransactionNumber};
+pub use maker::{Openings, opened, zero_book};
+use polyvalues::Polyvalue;
+pub use tables::{DISTRICTS, ITEMS};
+
+// A district's record: idle (0), computing (1) or waiting (2), and on which transaction.
+#[derive(Drop)]
+pub struct Record {
+    pub phase: u8,
+    pub transaction: TransactionNumber,
+}
+
+// An item of a district.
+#[derive(Drop)]
+pub struct Item {
+    pub district: u8,
+    pub held: Polyvalue,
+    pub pending: Polyvalue,
+}
+
+// An open transaction at its place: sets of districts, and a decision (0 none, 1 completed, 2 aborted).
+// A free place is all zeros.
+#[derive(Drop)]
+pub struct Open {
+    pub number: TransactionNumber,
+    pub touched: u8,
+    pub ready: u8,
+    pub gave: u8,
+    pub decision: u8,
+}
+
+// The first `districts` records and the first `count` items count; the rows past them are zero.
+#[derive(Drop)]
+pub struct Book {
+    pub last: TransactionNumber,
+    pub districts: usize,
+    pub records: [Record; DISTRICTS],
+    pub count: usize,
+    pub items: [Item; ITEMS],
+    pub open: [Open; PLACES],
+}
+
+// A step of a program: 4 bytes.
+#[derive(Drop)]
+pub struct Step {
+    pub kind: u8,
+    pub item: u8,
+    pub operand: i16,
+}
+
+// An item of a book that is to be opened.
+#[derive(Drop)]
+pub struct Opening {
+    pub district: u8,
+    pub value: i16,
+}
+
+#[derive(Drop)]
+pub enum Answer {
+    Accepted,
+    NoDistrict,
+    NoItem,
+    BadProgram,
+    NotOpen,
+    NotIdle,
+    AllOpen,
+    NumbersGiven,
+    TooManyValues,
+    NotOnIt,
+    AlreadyDecided,
+    NotReady,
+    NotDecided,
+    Malformed,
+    TooLong,
+    Unsound,
+    ShortBuffer,
+}
+
+// What begin answers.
+#[derive(Drop)]
+pub struct Begun {
+    pub answer: Answer,
+    pub number: TransactionNumber,
+    pub grant: u8,
+    pub book: Book,
+}
+
+// What the other events on a transaction answer.
+#[derive(Drop)]
+pub struct Done {
+    pub answer: Answer,
+    pub book: Book,
+}
+
+// What show answers, and where its line ends in the buffer: 0 where it is refused.
+#[derive(Drop)]
+pub struct Shown {
+    pub answer: Answer,
+    pub end: usize,
+}

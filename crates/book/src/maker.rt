@@ -1,24 +1,15 @@
 // Open: a new book, made of the count of districts and each item's district and value.
 ghost use Rattle.std.specs.Prelude.{◌≡◌, ◌++◌, map, ◌-◌, ◌≤◌, replicate};
 ghost use Rattle.conditions.specs.Places.{places};
-ghost use Rattle.programs.specs.States.{most_items};
-ghost use Rattle.book.specs.Book.{no_item, no_book};
+ghost use Rattle.book.specs.Book.{most_items, no_item, no_book};
 ghost use Rattle.book.specs.Open.{good_item, good_items, good_opening, opened_item};
 ghost use Rattle.book.specs.Openings.{openings_of, opened_rows};
 
 use crate::sound::good_counts;
-use crate::tables::{FREE, IDLE};
-use crate::types::{Book, DISTRICTS, Item};
+use crate::tables::{DISTRICTS, FREE, ITEMS};
+use crate::{Book, Item, Opening, Record};
 use conditions::{PLACES, TransactionNumber};
 use polyvalues::{Polyvalue, in_range};
-use programs::ITEMS;
-
-// An item of a book that is to be opened.
-#[derive(Drop)]
-pub struct Opening {
-    pub district: u8,
-    pub value: i16,
-}
 
 // The first `count` items count.
 #[derive(Drop)]
@@ -43,11 +34,15 @@ fn zero_item() -> Item
 pub fn zero_book() -> Book
     ensures { result ≡ no_book places }
 {
+    let idle = Record {
+        phase: 0,
+        transaction: TransactionNumber(0),
+    };
     let blank = zero_item();
     Book {
         last: TransactionNumber(0),
         districts: 0,
-        records: [IDLE; DISTRICTS],
+        records: [idle; DISTRICTS],
         count: 0,
         items: [blank; ITEMS],
         open: [FREE; PLACES],

@@ -2,16 +2,16 @@
 ghost use Rattle.std.specs.Prelude.{◌≡◌, not, ◌<◌, ◌≤◌, ◌^◌, eqb, ltb, get_or};
 ghost use Rattle.conditions.specs.Below.{all};
 ghost use Rattle.conditions.specs.Places.{places as Places·places};
-ghost use Rattle.book.specs.declared.types.Book.{Book};
+ghost use Rattle.book.specs.declared.Book.{Book};
 ghost use Rattle.book.specs.Book.{most_districts, no_open};
 ghost use Rattle.book.specs.Tables.{TablesOf};
 ghost use Rattle.book.specs.SoundTest.{zero_open, sound_at, sound_open, sound_place};
 
-use crate::forgetting::is_kept;
+use crate::Open;
+use crate::forget::is_kept;
 use crate::sets::has;
 use crate::tables::Tables;
-use crate::types::Open;
-use conditions::{PLACES, Place, TransactionNumber};
+use conditions::{PLACES, TransactionNumber};
 
 // Whether a place holds zeros.
 fn zero_open(o: Open) -> bool
@@ -74,13 +74,12 @@ fn sound_sets(o: Open, districts: usize) -> bool
 }
 
 // Whether no place before q has the number.
-fn number_differs(places: [Open; PLACES], q: Place, n: TransactionNumber) -> bool
-    requires { q.0 ≤ Places·places }
-    ensures { result ≡ all q.0 (λ p. not (eqb (get_or places p no_open).number.0 n.0)) }
+fn number_differs(places: [Open; PLACES], q: usize, n: TransactionNumber) -> bool
+    requires { q ≤ Places·places }
+    ensures { result ≡ all q (λ p. not (eqb (get_or places p no_open).number.0 n.0)) }
 {
-    let end = q.0;
     let mut p: usize = 0;
-    while p < end {
+    while p < q {
         let o = places[p];
         if o.number.0 == n.0 {
             return false;
@@ -91,9 +90,9 @@ fn number_differs(places: [Open; PLACES], q: Place, n: TransactionNumber) -> boo
 }
 
 // Whether the open transaction at a place is sound.
-fn sound_open(t: Tables, q: Place, o: Open) -> bool
-    requires { (t.districts ≤ most_districts) × (q.0 < Places·places) }
-    ensures { (b : Book) → TablesOf Places·places b t → result ≡ sound_open Places·places b q.0 o }
+fn sound_open(t: Tables, q: usize, o: Open) -> bool
+    requires { (t.districts ≤ most_districts) × (q < Places·places) }
+    ensures { (b : Book) → TablesOf Places·places b t → result ≡ sound_open Places·places b q o }
 {
     let districts = t.districts;
     if !is_within(o.touched, districts) {
@@ -122,19 +121,18 @@ fn sound_open(t: Tables, q: Place, o: Open) -> bool
 }
 
 // Whether a place is sound.
-fn sound_place(t: Tables, q: Place) -> bool
-    requires { (t.districts ≤ most_districts) × (q.0 < Places·places) }
-    ensures { (b : Book) → TablesOf Places·places b t → result ≡ sound_place Places·places b q.0 }
+fn sound_place(t: Tables, q: usize) -> bool
+    requires { (t.districts ≤ most_districts) × (q < Places·places) }
+    ensures { (b : Book) → TablesOf Places·places b t → result ≡ sound_place Places·places b q }
 {
-    let i = q.0;
-    let o = t.open[i];
+    let o = t.open[q];
     if o.number.0 != 0 {
         return sound_open(t, q, o);
     }
     if !zero_open(o) {
         return false;
     }
-    !has(t.depended, q.0)
+    !has(t.depended, q)
 }
 
 // Whether each of them is.
@@ -144,7 +142,7 @@ pub(crate) fn sound_places(t: Tables) -> bool
 {
     let mut q: usize = 0;
     while q < PLACES {
-        if !sound_place(t, Place(q)) {
+        if !sound_place(t, q) {
             return false;
         }
         q += 1;

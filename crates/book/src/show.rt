@@ -1,22 +1,12 @@
 // Show: the line of an item's held pairs, written into a lent buffer.
-ghost use Rattle.std.specs.Prelude.{◌≡◌, not, [], ◌∷◌, map, ltb};
+ghost use Rattle.std.specs.Prelude.{◌≡◌, map};
 ghost use Rattle.conditions.specs.Places.{places as Places·places};
 ghost use Rattle.conditions.specs.Written.{written};
-ghost use Rattle.book.specs.declared.answers.Answer.TheVariants.{NoItem, Unsound};
-ghost use Rattle.book.specs.Answers.{first_of};
 ghost use Rattle.book.specs.Show.{line_of, line_shown, shown, show};
 
-use crate::answers::Answer;
-use crate::types::{Book, Open};
+use crate::{Answer, Book, Open, Shown};
 use conditions::{PLACES, TransactionNumber, Written};
 use polyvalues::Polyvalue;
-
-// What show answers, and where its line ends in the buffer: 0 where it is refused.
-#[derive(Drop)]
-pub struct Shown {
-    pub answer: Answer,
-    pub end: usize,
-}
 
 // The number of the transaction at each place.
 fn numbers_at(places: [Open; PLACES]) -> [TransactionNumber; PLACES]
@@ -52,31 +42,25 @@ fn write_held(held: Polyvalue, open: [Open; PLACES], buf: &mut [u8]) -> Shown
     }
 }
 
-// The answer before the line is looked at: 15, 2.
-fn show_answer(is_sound: bool, count: usize, item: u8) -> Answer
-    ensures { result ≡ first_of ((not is_sound, Unsound) ∷ (not (ltb item count), NoItem) ∷ []) }
-{
-    if !is_sound {
-        return Answer::Unsound;
-    }
-    if count <= item as usize {
-        return Answer::NoItem;
-    }
-    Answer::Accepted
-}
-
 impl Book {
     // The call: the line of an item's held pairs is written at the buffer's start.
     pub fn show(self, item: u8, buf: &mut [u8]) -> Shown
         ensures value { result ≡ show Places·places self item buf.old }
         ensures buf_after { buf.new ≡ shown Places·places self item buf.old }
     {
-        let is_sound = self.is_sound();
-        let answer = show_answer(is_sound, self.count, item);
-        if answer.number() != 0 {
-            return Shown { answer, end: 0 };
+        if !self.is_sound() {
+            return Shown {
+                answer: Answer::Unsound,
+                end: 0,
+            };
         }
         let i = item as usize;
+        if self.count <= i {
+            return Shown {
+                answer: Answer::NoItem,
+                end: 0,
+            };
+        }
         let x = self.items[i];
         let held = x.held;
         let open = self.open;

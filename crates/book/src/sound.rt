@@ -4,12 +4,11 @@ ghost use Rattle.conditions.specs.Places.{places as Places·places};
 ghost use Rattle.book.specs.Book.{good_counts};
 ghost use Rattle.book.specs.SoundTest.{sound};
 
+use crate::Book;
 use crate::district_sound::sound_districts;
 use crate::item_sound::{sound_row, zero_row};
 use crate::place_sound::sound_places;
-use crate::tables::Tables;
-use crate::types::{Book, DISTRICTS};
-use programs::ITEMS;
+use crate::tables::{DISTRICTS, ITEMS, Tables, places_of};
 
 // Whether a book may have so many districts and items.
 pub(crate) fn good_counts(districts: usize, count: usize) -> bool
@@ -44,7 +43,7 @@ impl Book {
         let mut i: usize = 0;
         while i < count {
             let x = self.items[i];
-            let its = x.places();
+            let its = places_of(x);
             if !sound_row(records, open, districts, x, its) {
                 return false;
             }

@@ -1,22 +1,31 @@
 // What one reads off the tables of a book.
-ghost use Rattle.std.specs.Prelude.{◌≡◌, not, min, eqb, get_or};
+ghost use Rattle.std.specs.Prelude.{◌≡◌, true, false, not, ℕ, ◌≤◌, eqb, get_or};
 ghost use Rattle.conditions.specs.Below.{any, first};
 ghost use Rattle.conditions.specs.Places.{places as Places·places};
-ghost use Rattle.programs.specs.States.{most_items};
-ghost use Rattle.book.specs.Book.{no_record, no_open, record_on, is_open, named};
-
-use crate::types::{DISTRICTS, Open, Record};
-use conditions::{PLACES, Place, TransactionNumber};
-use programs::ITEMS;
-
-// An idle district's record.
-pub const IDLE: Record = Record {
-    phase: 0,
-    transaction: TransactionNumber(0),
+ghost use Rattle.conditions.specs.Sets.{set_of};
+ghost use Rattle.polyvalues.specs.Pairs.{depends};
+ghost use Rattle.polyvalues.specs.Polyvalues.{in_use};
+ghost use Rattle.book.specs.Book.{
+  most_districts,
+  no_record,
+  no_open,
+  record_on,
+  is_open,
+  named,
+  item_depends,
 };
 
+use crate::{Item, Open, Record};
+use conditions::{Condition, PLACES, Place, TransactionNumber};
+use polyvalues::Polyvalue;
+
+// How many districts and items a book has room for.
+pub const DISTRICTS: usize = 8;
+
+pub const ITEMS: usize = 32;
+
 // A free place.
-pub const FREE: Open = Open {
+pub(crate) const FREE: Open = Open {
     number: TransactionNumber(0),
     touched: 0,
     ready: 0,
@@ -35,63 +44,42 @@ pub struct Tables {
     pub depended: u8,
 }
 
-// The record of a district, an idle one where there is no such row.
-pub fn record_at(records: [Record; DISTRICTS], district: u8) -> Record
-    ensures { result ≡ get_or records district no_record }
+// The number of the transaction that a district with this record is on, 0 where it is idle.
+pub(crate) fn record_on(r: Record) -> u16
+    ensures { result ≡ record_on r }
 {
-    let d = district as usize;
-    if DISTRICTS <= d {
-        return IDLE;
+    if r.phase == 0 {
+        return 0;
     }
-    records[d]
-}
-
-// What a place holds, a free one where there is no such row.
-pub fn open_at(places: [Open; PLACES], q: Place) -> Open
-    ensures { result ≡ get_or places q.0 no_open }
-{
-    let i = q.0;
-    if PLACES <= i {
-        return FREE;
-    }
-    places[i]
+    r.transaction.0
 }
 
 // The number of the transaction that the items of a district are on.
-pub fn district_on(records: [Record; DISTRICTS], district: u8) -> TransactionNumber
-    ensures { result.0 ≡ record_on (get_or records district no_record) }
+pub(crate) fn district_on(records: [Record; DISTRICTS], district: u8) -> u16
+    ensures { result ≡ record_on (get_or records district no_record) }
 {
-    let r = record_at(records, district);
-    r.on()
+    let d = district as usize;
+    if DISTRICTS <= d {
+        return 0;
+    }
+    let r = records[d];
+    record_on(r)
 }
 
-// Whether a district below the count is on the transaction. Past the rows a district is on none, 0.
-pub fn some_on(records: [Record; DISTRICTS], districts: usize, n: TransactionNumber) -> bool
-    ensures { result ≡ any districts (λ d. eqb (record_on (get_or records d no_record)) n.0) }
+// Whether a district is on the transaction.
+pub(crate) fn some_on(records: [Record; DISTRICTS], districts: usize, n: u16) -> bool
+    requires { districts ≤ most_districts }
+    ensures { result ≡ any districts (λ d. eqb (record_on (get_or records d no_record)) n) }
 {
     let mut d: usize = 0;
     while d < districts {
-        if DISTRICTS <= d {
-            return n.0 == 0;
-        }
         let r = records[d];
-        let on = r.on();
-        if on.0 == n.0 {
+        if record_on(r) == n {
             return true;
         }
         d += 1;
     }
     false
-}
-
-// How many of so many items have a row.
-pub(crate) fn item_rows(count: usize) -> usize
-    ensures { result ≡ min count most_items }
-{
-    if ITEMS < count {
-        return ITEMS;
-    }
-    count
 }
 
 // Whether the transaction at a place has the number.
@@ -105,31 +93,76 @@ fn is_named(o: Open, n: TransactionNumber) -> bool
 }
 
 // The place of the open transaction with the number, or the number of places where none has it.
-pub fn place_of(places: [Open; PLACES], n: TransactionNumber) -> Place
-    ensures { result.0 ≡ first Places·places (λ q. named n.0 (get_or places q no_open)) }
+pub(crate) fn place_of(places: [Open; PLACES], n: TransactionNumber) -> usize
+    ensures { result ≡ first Places·places (λ q. named n.0 (get_or places q no_open)) }
 {
     let mut q: usize = 0;
     while q < PLACES {
         let o = places[q];
         if is_named(o, n) {
-            return Place(q);
+            return q;
         }
         q += 1;
     }
-    Place(q)
+    q
 }
 
 // The lowest free place, or the number of places where none is free.
-pub fn free_place(places: [Open; PLACES]) -> Place
-    ensures { result.0 ≡ first Places·places (λ q. not (is_open (get_or places q no_open))) }
+pub(crate) fn free_place(places: [Open; PLACES]) -> usize
+    ensures { result ≡ first Places·places (λ q. not (is_open (get_or places q no_open))) }
 {
     let mut q: usize = 0;
     while q < PLACES {
         let o = places[q];
         if o.number.0 == 0 {
-            return Place(q);
+            return q;
         }
         q += 1;
     }
-    Place(q)
+    q
+}
+
+// Whether the item's held or pending polyvalue depends on the place.
+pub(crate) fn item_depends(x: Item, q: Place) -> bool
+    ensures { result ≡ item_depends Places·places x q.0 }
+{
+    if x.held.depends(q) {
+        return true;
+    }
+    x.pending.depends(q)
+}
+
+// Whether it is one pair that always applies: such a polyvalue depends on no place.
+fn is_certain(p: Polyvalue) -> bool
+    ensures { result ≡ true → (q : ℕ) → depends Places·places (in_use p) q ≡ false }
+{
+    if p.count != 1 {
+        return false;
+    }
+    let condition = p.conditions[0];
+    condition.same(Condition::FULL)
+}
+
+// Whether both of the item's are.
+fn is_sure(x: Item) -> bool
+    ensures { result ≡ true → (q : ℕ) → item_depends Places·places x q ≡ false }
+{
+    let held = x.held;
+    if !is_certain(held) {
+        return false;
+    }
+    let pending = x.pending;
+    is_certain(pending)
+}
+
+// The set of the places that the item depends on.
+pub(crate) fn places_of(x: Item) -> u8
+    ensures { result ≡ set_of Places·places (item_depends Places·places x) }
+{
+    if is_sure(x) {
+        return 0;
+    }
+    let held = x.held.places();
+    let pending = x.pending.places();
+    held | pending
 }

@@ -7,19 +7,19 @@ use lib.Dec.{eqb, ltb}
 use borrow.Author.Tests.{eqb-false, ltb-true, ltb-false}
 use Rattle.conditions.proofs.Laws.Below.{by_cases}
 use Rattle.conditions.specs.declared.place.TransactionNumber.{TransactionNumber}
-use Rattle.book.specs.declared.answers.Answer.{Answer}
-use Rattle.book.specs.declared.types.Book.{Book}
-use Rattle.book.specs.declared.types.Open.{Open}
+use Rattle.book.specs.declared.Answer.{Answer}
+use Rattle.book.specs.declared.Book.{Book}
+use Rattle.book.specs.declared.Open.{Open}
 use Rattle.book.specs.Book.{record_at, item_at, open_at, is_open, place_of, some_depends, some_on, open_of}
 use Rattle.book.specs.Answers.{accepted}
-use Rattle.events.specs.Transactions.{done}
+use Rattle.book.specs.Transactions.{done}
 use Rattle.book.specs.Forget.{decided, needed, kept, remembered, forget}
 use Rattle.book.specs.Sound.{Sound}
 use Rattle.book.specs.Shaped.{Whole}
 use Rattle.book.proofs.Laws.Sound.{place-named}
 use Rattle.book.proofs.Laws.But.{place-open, row-alike}
 use Rattle.book.proofs.Laws.Forgetting.{forget-row, forget-open, forget-is-open}
-use Rattle.demands.proofs.Calls.{WholeBut, forgotten, done-accepted}
+use Rattle.book.proofs.Laws.Calls.{WholeBut, forgotten, done-accepted}
 use Rattle.demands.specs.Calls.{Call}
 use Rattle.demands.specs.Past.{asks_begin}
 use Rattle.demands.specs.Demands.{row_with, open_after, Leaves}

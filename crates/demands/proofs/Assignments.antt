@@ -15,12 +15,12 @@ use Rattle.polyvalues.specs.declared.polyvalue.Pair.{Pair}
 use Rattle.polyvalues.specs.Pairs.{at, depends}
 use Rattle.polyvalues.specs.Polyvalues.{in_use}
 use Rattle.polyvalues.proofs.Laws.Depends.{at-free}
-use Rattle.book.specs.declared.types.Book.{Book}
+use Rattle.book.specs.declared.Book.{Book}
 use Rattle.book.specs.Book.{item_at, open_at, is_open}
-use Rattle.begin.specs.Begin.{held_at}
+use Rattle.book.specs.Begin.{held_at}
 use Rattle.book.specs.Sound.{Sound}
 use Rattle.book.proofs.Laws.But.{sound-but}
-use Rattle.book.proofs.Laws.Items.{neither-depends}
+use Rattle.book.proofs.Laws.Settling.{neither-depends}
 use Rattle.demands.specs.Demands.{pending_at, Says}
 
 -- ---- one list of pairs

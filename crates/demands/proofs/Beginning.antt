@@ -8,19 +8,18 @@ use Rattle.conditions.proofs.Laws.Below.{by_cases}
 use Rattle.polyvalues.specs.declared.polyvalue.Polyvalue.{Polyvalue}
 use Rattle.polyvalues.specs.Pairs.{at}
 use Rattle.polyvalues.specs.Polyvalues.{in_use}
-use Rattle.book.specs.declared.types.Book.{Book}
-use Rattle.programs.specs.declared.steps.Step.{Step}
+use Rattle.book.specs.declared.Book.{Book}
+use Rattle.book.specs.declared.Step.{Step}
 use Rattle.book.specs.Answers.{accepted}
 use Rattle.book.specs.Book.{item_at, item_on}
-use Rattle.programs.specs.Programs.{steps, run, touches}
+use Rattle.book.specs.Programs.{steps, run, touches}
 use Rattle.book.specs.Sound.{Sound}
-use Rattle.begin.specs.Begin.{held_at, touches_district, begin}
+use Rattle.book.specs.Begin.{held_at, touches_district, begin}
 use Rattle.book.specs.Shaped.{Shaped}
-use Rattle.programs.proofs.Laws.Programs.{run-reads, run-frame}
-use Rattle.begin.proofs.Laws.Tests.{begin-tests}
-use Rattle.programs.proofs.Laws.Touched.{touched-below}
-use Rattle.begin.proofs.Laws.Touched.{touched-idle}
-use Rattle.begin.proofs.Laws.BeginSound.{Begins, touched-district, not-touched}
+use Rattle.book.proofs.Laws.Programs.{run-reads, run-frame}
+use Rattle.book.proofs.Laws.Calls.{begin-tests}
+use Rattle.book.proofs.Laws.Touched.{touched-below, touched-idle}
+use Rattle.book.proofs.Laws.BeginSound.{Begins, touched-district, not-touched}
 use Rattle.demands.proofs.Events.{begin-values}
 use Rattle.demands.specs.Demands.{pending_at, Says}
 use Rattle.demands.proofs.Items.{begin-on}

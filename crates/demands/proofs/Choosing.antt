@@ -12,21 +12,21 @@ use Rattle.conditions.proofs.Laws.Below.{by_cases}
 use Rattle.conditions.proofs.Laws.Places.{place_same}
 use Rattle.polyvalues.specs.Pairs.{at}
 use Rattle.polyvalues.specs.Polyvalues.{in_use}
-use Rattle.book.specs.declared.types.Book.{Book}
-use Rattle.book.specs.declared.types.Item.{Item}
+use Rattle.book.specs.declared.Book.{Book}
+use Rattle.book.specs.declared.Item.{Item}
 use Rattle.book.specs.Answers.{accepted}
 use Rattle.book.specs.Book.{record_at, item_at, item_on, place_of, open_of}
 use Rattle.book.specs.Records.{computing_on, busy_on}
-use Rattle.events.specs.Items.{there}
-use Rattle.begin.specs.Begin.{held_at}
-use Rattle.events.specs.Ready.{ready}
-use Rattle.events.specs.GiveUp.{give_up}
-use Rattle.events.specs.Hear.{outcome, hear}
+use Rattle.book.specs.Items.{there}
+use Rattle.book.specs.Begin.{held_at}
+use Rattle.book.specs.Ready.{ready}
+use Rattle.book.specs.GiveUp.{give_up}
+use Rattle.book.specs.Hear.{outcome, hear}
 use Rattle.book.proofs.Laws.Sound.{place-named}
 use Rattle.book.specs.Shaped.{Shaped}
 use Rattle.book.proofs.Laws.But.{place-open, computing-on, busy-is}
 use Rattle.demands.proofs.Events.{ready-keeps, give-up-values, hear-values}
-use Rattle.events.proofs.Laws.Tests.{GivesUp, Hears, give-up-tests, hear-tests}
+use Rattle.book.proofs.Laws.Calls.{GivesUp, Hears, give-up-tests, hear-tests}
 use Rattle.demands.specs.Calls.{gives_up}
 use Rattle.demands.specs.Past.{Said, said, asks_complete, was_completed, was_aborted, Guess}
 use Rattle.demands.specs.Demands.{pending_at, given_up_at, set_at, Says}

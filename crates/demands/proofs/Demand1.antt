@@ -6,22 +6,22 @@ use Prim.Native.Nat.{ℕ}
 use borrow.Author.Tests.{lt-ltb, le-ltb}
 use Rattle.conditions.specs.Conditions.{of_number}
 use Rattle.polyvalues.proofs.Laws.Asked.{asked-number}
-use Rattle.book.specs.declared.answers.Answer.{Answer}
-use Rattle.book.specs.declared.types.Book.{Book}
+use Rattle.book.specs.declared.Answer.{Answer}
+use Rattle.book.specs.declared.Book.{Book}
 use Rattle.book.specs.Answers.{answer_number, first_of}
-use Rattle.events.specs.Transactions.{done}
+use Rattle.book.specs.Transactions.{done}
 use Rattle.book.specs.Open.{opened}
-use Rattle.begin.specs.Begin.{begin_answer, begin}
-use Rattle.events.specs.Ready.{ready_answer, ready}
-use Rattle.events.specs.GiveUp.{give_up_answer, give_up}
-use Rattle.events.specs.Decide.{complete_answer, abort_answer, complete, abort}
-use Rattle.events.specs.Hear.{hear_answer, hear}
+use Rattle.book.specs.Begin.{begin_answer, begin}
+use Rattle.book.specs.Ready.{ready_answer, ready}
+use Rattle.book.specs.GiveUp.{give_up_answer, give_up}
+use Rattle.book.specs.Decide.{complete_answer, abort_answer, complete, abort}
+use Rattle.book.specs.Hear.{hear_answer, hear}
 use Rattle.book.specs.Show.{show_answer, shown}
 use Rattle.book.proofs.Laws.Open.{no-book-unsound}
 use Rattle.book.proofs.Laws.OpenedShaped.{opened-whole}
 use Rattle.book.proofs.Laws.Room.{give-up-room, hear-room}
 use Rattle.book.specs.Shaped.{Whole}
-use Rattle.demands.proofs.Calls.{ready-whole, give-up-whole, complete-whole, abort-whole, hear-whole, begin-whole}
+use Rattle.book.proofs.Laws.Calls.{ready-whole, give-up-whole, complete-whole, abort-whole, hear-whole, begin-whole}
 use Rattle.sheet.specs.Open.{opened_sheet, open_sheet, refused as sheet_refused}
 use Rattle.demands.specs.Calls.{Call, begins_with, readies, gives_up, completes, aborts, hears, shows, answer_to, book_after}
 use Rattle.demands.specs.Demands.{order_of, tests_of, first_number, Demand1, OneResult}

@@ -7,15 +7,15 @@ use borrow.Author.Tests.{eqb-true, eq-eqb, ne_eqb}
 use Rattle.conditions.proofs.Laws.Below.{by_cases}
 use Rattle.polyvalues.proofs.Laws.Canon.{unique}
 use Rattle.polyvalues.proofs.Laws.Packed.{sound-well-formed}
-use Rattle.book.specs.declared.types.Book.{Book}
-use Rattle.book.specs.declared.types.Open.{Open}
+use Rattle.book.specs.declared.Book.{Book}
+use Rattle.book.specs.declared.Open.{Open}
 use Rattle.book.specs.Answers.{accepted}
 use Rattle.book.specs.Book.{record_at, item_at, open_at, is_open, place_of, some_depends, some_on, open_of}
 use Rattle.book.specs.Records.{computing_on}
 use Rattle.book.specs.Forget.{decided, needed, kept}
-use Rattle.events.specs.Ready.{reported}
-use Rattle.events.specs.GiveUp.{marked}
-use Rattle.begin.specs.Begin.{held_at}
+use Rattle.book.specs.Ready.{reported}
+use Rattle.book.specs.GiveUp.{marked}
+use Rattle.book.specs.Begin.{held_at}
 use Rattle.book.specs.Show.{shown}
 use Rattle.book.specs.Shaped.{Shaped}
 use Rattle.book.proofs.Laws.But.{row-alike}

@@ -7,8 +7,8 @@ use lib.IntN.{ℤ}
 use lib.ListN.{length}
 use borrow.Author.Tests.{eqb-true}
 use Rattle.conditions.proofs.Laws.Below.{by_cases}
-use Rattle.book.specs.declared.types.Book.{Book}
-use Rattle.book.specs.declared.maker.Opening.{Opening}
+use Rattle.book.specs.declared.Book.{Book}
+use Rattle.book.specs.declared.Opening.{Opening}
 use Rattle.book.specs.Answers.{accepted}
 use Rattle.book.specs.Book.{item_at, idle, item_on}
 use Rattle.book.specs.Sound.{Sound}

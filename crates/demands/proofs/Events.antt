@@ -6,28 +6,24 @@ use Prim.Native.Nat.{ℕ, ◌^◌, ◌<◌}
 use lib.IntN.{ℤ}
 use Rattle.conditions.proofs.Laws.Below.{by_cases}
 use Rattle.polyvalues.specs.declared.polyvalue.Polyvalue.{Polyvalue}
-use Rattle.book.specs.declared.answers.Answer.{Answer}
-use Rattle.book.specs.declared.types.Item.{Item}
-use Rattle.book.specs.declared.types.Book.{Book}
+use Rattle.book.specs.declared.Answer.{Answer}
+use Rattle.book.specs.declared.Item.{Item}
+use Rattle.book.specs.declared.Book.{Book}
 use Rattle.book.specs.Answers.{accepted}
 use Rattle.book.specs.Book.{record_at, item_at}
-use Rattle.programs.specs.Programs.{steps, run, touches}
+use Rattle.book.specs.Programs.{steps, run, touches}
 use Rattle.book.specs.Records.{busy_on}
-use Rattle.events.specs.Items.{there, concerned}
-use Rattle.events.specs.Transactions.{done}
-use Rattle.begin.specs.Begin.{held_at, begin_answer, begun, begin}
-use Rattle.events.specs.Ready.{ready_answer, readied, ready}
-use Rattle.events.specs.GiveUp.{give_up_answer, gave_up, give_up}
-use Rattle.events.specs.Decide.{complete_answer, abort_answer, decide, complete, abort}
-use Rattle.events.specs.Hear.{hear_answer, heard, hear}
+use Rattle.book.specs.Items.{there, concerned}
+use Rattle.book.specs.Transactions.{done}
+use Rattle.book.specs.Begin.{held_at, begin_answer, begun, begin}
+use Rattle.book.specs.Ready.{ready_answer, readied, ready}
+use Rattle.book.specs.GiveUp.{give_up_answer, gave_up, give_up}
+use Rattle.book.specs.Decide.{complete_answer, abort_answer, decide, complete, abort}
+use Rattle.book.specs.Hear.{hear_answer, heard, hear}
 use Rattle.book.specs.Shaped.{Shaped}
-use Rattle.book.proofs.Laws.Values.{value_under, forget-item}
-use Rattle.begin.proofs.Laws.Values.{begin-held, begin-pending}
-use Rattle.events.proofs.Laws.Values.{give-up-held, give-up-pending, hear-held, hear-pending}
-use Rattle.events.proofs.Laws.Settling.{concerned-busy}
-use Rattle.events.proofs.Laws.Tests.{GivesUp, Hears, give-up-tests, hear-tests}
-use Rattle.demands.proofs.Calls.{done-accepted}
-use Rattle.begin.proofs.Laws.Tests.{begin-tests}
+use Rattle.book.proofs.Laws.Values.{value_under, forget-item, begin-held, begin-pending, give-up-held, give-up-pending, hear-held, hear-pending}
+use Rattle.book.proofs.Laws.Settling.{concerned-busy}
+use Rattle.book.proofs.Laws.Calls.{GivesUp, Hears, done-accepted, begin-tests, give-up-tests, hear-tests}
 use Rattle.demands.specs.Demands.{pending_at, Values, given_up_at, heard_at}
 
 -- an accepted call gives the items of its event: forgetting changes none

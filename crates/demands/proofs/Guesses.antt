@@ -4,7 +4,7 @@ use mathlib.Core.Bool.{Bool, true, false, true≢false}
 use mathlib.Core.List.{List, ◌∷◌}
 use Prim.Native.Nat.{ℕ}
 use Rattle.conditions.proofs.Laws.Below.{by_cases}
-use Rattle.book.specs.declared.types.Book.{Book}
+use Rattle.book.specs.declared.Book.{Book}
 use Rattle.demands.specs.Past.{Said, asks_complete, asks_abort, was_completed, was_aborted, gives_up_early, was_given_up, Guess}
 use Rattle.demands.proofs.Ledger.{ever-still, Ledger}
 

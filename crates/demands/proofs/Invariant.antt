@@ -7,23 +7,22 @@ use lib.Dec.{eqb}
 use lib.IntN.{ℤ}
 use borrow.Author.Tests.{eqb-true}
 use Rattle.conditions.proofs.Laws.Below.{by_cases}
-use Rattle.book.specs.declared.types.Book.{Book}
-use Rattle.book.specs.declared.types.Open.{Open}
+use Rattle.book.specs.declared.Book.{Book}
+use Rattle.book.specs.declared.Open.{Open}
 use Rattle.book.specs.Answers.{accepted}
 use Rattle.book.specs.Book.{open_at, is_open, place_of, free_place}
-use Rattle.events.specs.Transactions.{done}
-use Rattle.programs.specs.Programs.{steps}
-use Rattle.begin.specs.Begin.{begin_answer, begun, begin}
-use Rattle.events.specs.Ready.{ready_answer, readied, ready}
-use Rattle.events.specs.GiveUp.{give_up_answer, gave_up, give_up}
-use Rattle.events.specs.Decide.{complete_answer, abort_answer, decide, complete, abort}
-use Rattle.events.specs.Hear.{hear_answer, heard, hear}
+use Rattle.book.specs.Transactions.{done}
+use Rattle.book.specs.Programs.{steps}
+use Rattle.book.specs.Begin.{begin_answer, begun, begin}
+use Rattle.book.specs.Ready.{ready_answer, readied, ready}
+use Rattle.book.specs.GiveUp.{give_up_answer, gave_up, give_up}
+use Rattle.book.specs.Decide.{complete_answer, abort_answer, decide, complete, abort}
+use Rattle.book.specs.Hear.{hear_answer, heard, hear}
 use Rattle.book.specs.Shaped.{Shaped, Whole}
 use Rattle.book.proofs.Laws.But.{row-alike}
-use Rattle.begin.proofs.Laws.BeginSound.{free-place}
+use Rattle.book.proofs.Laws.BeginSound.{free-place}
 use Rattle.demands.proofs.Events.{complete-keeps, abort-keeps}
-use Rattle.demands.proofs.Calls.{done_refused}
-use Rattle.begin.proofs.Laws.Tests.{begin-tests}
+use Rattle.book.proofs.Laws.Calls.{done_refused, begin-tests}
 use Rattle.demands.specs.Calls.{Call, begins_with, readies, gives_up, completes, aborts, hears, shows, answer_to, book_after}
 use Rattle.demands.specs.Past.{Said, said, asks_begin, asks_complete, was_completed, was_given_up, began, Guess, runs, serial}
 use Rattle.demands.specs.Demands.{Says}

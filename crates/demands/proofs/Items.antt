@@ -6,25 +6,23 @@ use Prim.Native.Nat.{ℕ, suc, ◌<◌}
 use lib.Dec.{eqb}
 use borrow.Author.Tests.{eqb-true}
 use Rattle.conditions.proofs.Laws.Below.{by_cases}
-use Rattle.book.specs.declared.types.Book.{Book}
-use Rattle.book.specs.declared.types.Item.{Item}
+use Rattle.book.specs.declared.Book.{Book}
+use Rattle.book.specs.declared.Item.{Item}
 use Rattle.book.specs.Answers.{accepted}
 use Rattle.book.specs.Book.{record_at, item_at, record_on, item_on, open_of}
-use Rattle.programs.specs.Programs.{steps, touches}
+use Rattle.book.specs.Programs.{steps, touches}
 use Rattle.book.specs.Records.{computing_on, busy_on, hear_record}
-use Rattle.events.specs.Items.{there, concerned, split, reduce_item}
-use Rattle.events.specs.Transactions.{done}
-use Rattle.begin.specs.Begin.{begin_answer, touches_district, begin_item, begun, begin}
-use Rattle.events.specs.Ready.{ready}
-use Rattle.events.specs.GiveUp.{give_up_answer, give_up_item, gave_up, give_up}
-use Rattle.events.specs.Hear.{outcome, hear_answer, hear_item, heard, hear}
+use Rattle.book.specs.Items.{there, concerned, split, reduce_item}
+use Rattle.book.specs.Transactions.{done}
+use Rattle.book.specs.Begin.{begin_answer, touches_district, begin_item, begun, begin}
+use Rattle.book.specs.Ready.{ready}
+use Rattle.book.specs.GiveUp.{give_up_answer, give_up_item, gave_up, give_up}
+use Rattle.book.specs.Hear.{outcome, hear_answer, hear_item, heard, hear}
 use Rattle.book.specs.Shaped.{Shaped}
-use Rattle.begin.proofs.Laws.Values.{begin-item}
-use Rattle.events.proofs.Laws.Values.{give-up-item, hear-item}
+use Rattle.book.proofs.Laws.Values.{begin-item, give-up-item, hear-item}
 use Rattle.demands.proofs.Events.{done-item, ready-keeps}
 use Rattle.book.proofs.Laws.But.{computing-on, busy-is, busy-on}
-use Rattle.begin.proofs.Laws.Tests.{begin-tests}
-use Rattle.events.proofs.Laws.Tests.{ready-tests, give-up-tests, hear-tests}
+use Rattle.book.proofs.Laws.Calls.{begin-tests, ready-tests, give-up-tests, hear-tests}
 use Rattle.demands.proofs.Tables.{ready-record, give-up-record, hear-record, begin-record}
 
 -- an item stays on its transaction where it stays and no record changes: complete and abort

@@ -4,8 +4,8 @@ use mathlib.Core.Bool.{true}
 use mathlib.Core.List.{List}
 use Prim.Native.Nat.{ℕ}
 use borrow.Author.Tests.{not-false}
-use Rattle.book.specs.declared.types.Book.{Book}
-use Rattle.book.specs.declared.types.Item.{Item}
+use Rattle.book.specs.declared.Book.{Book}
+use Rattle.book.specs.declared.Item.{Item}
 use Rattle.book.specs.Answers.{accepted}
 use Rattle.book.specs.Book.{place_of}
 use Rattle.book.specs.Sound.{Sound}

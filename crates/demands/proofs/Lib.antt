@@ -1,4 +1,3 @@
-mod Calls
 mod Acts
 mod Tables
 mod Events
@@ -17,5 +16,6 @@ mod Sheets
 mod Settled
 pub mod Demand1
 pub mod Demand2
+mod Lines
 pub mod Examples
 pub mod All

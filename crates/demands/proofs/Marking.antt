@@ -11,23 +11,23 @@ use Rattle.conditions.specs.Sets.{member}
 use Rattle.conditions.proofs.Laws.Below.{and_left, by_cases}
 use Rattle.conditions.proofs.Laws.Sets.{member-none}
 use Rattle.conditions.proofs.Laws.Places.{member-place, member-set}
-use Rattle.book.specs.declared.types.Book.{Book}
-use Rattle.book.specs.declared.types.Open.{Open}
-use Rattle.book.specs.declared.types.Record.{Record}
+use Rattle.book.specs.declared.Book.{Book}
+use Rattle.book.specs.declared.Open.{Open}
+use Rattle.book.specs.declared.Record.{Record}
 use Rattle.book.specs.Answers.{accepted}
 use Rattle.book.specs.Book.{most_districts, record_at, open_at, is_open, place_of, free_place, open_of}
-use Rattle.programs.specs.Programs.{steps}
+use Rattle.book.specs.Programs.{steps}
 use Rattle.book.specs.Records.{computing_on, waiting_on, busy_on}
 use Rattle.book.specs.Forget.{decided}
-use Rattle.begin.specs.Begin.{begin}
-use Rattle.events.specs.Ready.{reported, ready}
-use Rattle.events.specs.GiveUp.{marked, give_up}
-use Rattle.events.specs.Decide.{with_decision, complete, abort}
-use Rattle.events.specs.Hear.{hear}
+use Rattle.book.specs.Begin.{begin}
+use Rattle.book.specs.Ready.{reported, ready}
+use Rattle.book.specs.GiveUp.{marked, give_up}
+use Rattle.book.specs.Decide.{with_decision, complete, abort}
+use Rattle.book.specs.Hear.{hear}
 use Rattle.book.specs.Shaped.{Shaped}
 use Rattle.book.proofs.Laws.Including.{including-either}
 use Rattle.book.proofs.Laws.But.{place-open, computing-on, busy-is}
-use Rattle.events.proofs.Laws.Tests.{GivesUp, ready-tests, give-up-tests, complete-tests, abort-tests}
+use Rattle.book.proofs.Laws.Calls.{GivesUp, ready-tests, give-up-tests, complete-tests, abort-tests}
 use Rattle.demands.specs.Calls.{Call, begins_with, readies, gives_up, completes, aborts, hears, answer_to}
 use Rattle.demands.specs.Past.{Said, said, asks_ready, asks_complete, asks_abort, ever, was_ready, gives_up_early, was_given_up, began}
 use Rattle.demands.specs.Demands.{new_row}

@@ -8,8 +8,8 @@ use lib.ListN.{length, get_or-replicate}
 use Rattle.polyvalues.specs.Pairs.{at, certain}
 use Rattle.polyvalues.specs.Polyvalues.{in_use, packed}
 use Rattle.polyvalues.proofs.Laws.Canon.{certain-canon}
-use Rattle.book.specs.declared.types.Item.{Item}
-use Rattle.book.specs.declared.maker.Opening.{Opening}
+use Rattle.book.specs.declared.Item.{Item}
+use Rattle.book.specs.declared.Opening.{Opening}
 use Rattle.book.specs.Book.{no_open, item_at, open_at, is_open}
 use Rattle.book.specs.Open.{good_opening, opened_item, opened_book, opened}
 use Rattle.book.proofs.Laws.Rows.{made_row}

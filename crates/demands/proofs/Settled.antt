@@ -12,12 +12,11 @@ use Rattle.polyvalues.specs.Pairs.{at}
 use Rattle.polyvalues.specs.Polyvalues.{in_use, packed, AllRows, sound as sound_polyvalue}
 use Rattle.polyvalues.proofs.Laws.Canon.{unique}
 use Rattle.polyvalues.proofs.Laws.Packed.{sound-well-formed, sound-packed}
-use Rattle.book.specs.declared.types.Book.{Book}
-use Rattle.book.specs.declared.types.Open.{Open}
-use Rattle.book.specs.Book.{most_districts, no_record, void_item, no_open, record_at, item_at, some_depends, some_on}
-use Rattle.programs.specs.States.{most_items}
+use Rattle.book.specs.declared.Book.{Book}
+use Rattle.book.specs.declared.Open.{Open}
+use Rattle.book.specs.Book.{most_districts, most_items, no_record, void_item, no_open, record_at, item_at, some_depends, some_on}
 use Rattle.book.specs.Forget.{needed, kept, remembered}
-use Rattle.begin.specs.Begin.{held_at}
+use Rattle.book.specs.Begin.{held_at}
 use Rattle.book.specs.Shaped.{Whole}
 use Rattle.demands.specs.Calls.{Call}
 use Rattle.demands.specs.Demands.{pending_at, Values, EachValue, Records, open_after, Leaves}

@@ -2,9 +2,9 @@
 use mathlib.Core.Path.{◌≡◌, refl, ap, ◌∙◌}
 use mathlib.Core.List.{List, [], ◌∷◌}
 use Prim.Native.Nat.{ℕ}
-use Rattle.book.specs.declared.types.Book.{Book}
-use Rattle.sheet.specs.declared.kinds.Event.{Event}
-use Rattle.sheet.specs.declared.kinds.Event.TheVariants.{Begin, Ready, GiveUp, Complete, Abort, Hear, Show}
+use Rattle.book.specs.declared.Book.{Book}
+use Rattle.sheet.specs.declared.events.Event.{Event}
+use Rattle.sheet.specs.declared.events.Event.TheVariants.{Begin, Ready, GiveUp, Complete, Abort, Hear, Show}
 use Rattle.sheet.specs.Open.{open_sheet}
 use Rattle.sheet.specs.Play.{of_show, event_result}
 use Rattle.sheet.proofs.Laws.Open.{sheet-opens}

@@ -6,31 +6,29 @@ use Prim.Native.Nat.{ℕ, suc, ◌<◌}
 use lib.Dec.{eqb}
 use borrow.Author.Tests.{eqb-true}
 use Rattle.conditions.proofs.Laws.Below.{by_cases}
-use Rattle.book.specs.declared.answers.Answer.{Answer}
-use Rattle.book.specs.declared.types.Book.{Book}
+use Rattle.book.specs.declared.Answer.{Answer}
+use Rattle.book.specs.declared.Book.{Book}
 use Rattle.conditions.specs.declared.place.TransactionNumber.{TransactionNumber}
 use Rattle.book.specs.Answers.{accepted}
 use Rattle.book.specs.Book.{no_record, record_at, open_at, is_open, place_of, free_place, open_of}
-use Rattle.programs.specs.Programs.{steps}
+use Rattle.book.specs.Programs.{steps}
 use Rattle.book.specs.Records.{computing_on, begin_record, ready_record, hear_record}
 use Rattle.book.specs.Forget.{kept, remembered}
-use Rattle.events.specs.Transactions.{done}
+use Rattle.book.specs.Transactions.{done}
 use Rattle.book.specs.Sound.{Sound}
-use Rattle.begin.specs.Begin.{grant, begin_answer, touches_district, begun, begin}
-use Rattle.events.specs.Ready.{ready_answer, reported, readied, ready}
-use Rattle.events.specs.GiveUp.{give_up_answer, marked, gave_up, give_up}
-use Rattle.events.specs.Decide.{complete_answer, abort_answer, with_decision, decide, complete, abort}
-use Rattle.events.specs.Hear.{hear_answer, heard, hear}
+use Rattle.book.specs.Begin.{grant, begin_answer, touches_district, begun, begin}
+use Rattle.book.specs.Ready.{ready_answer, reported, readied, ready}
+use Rattle.book.specs.GiveUp.{give_up_answer, marked, gave_up, give_up}
+use Rattle.book.specs.Decide.{complete_answer, abort_answer, with_decision, decide, complete, abort}
+use Rattle.book.specs.Hear.{hear_answer, heard, hear}
 use Rattle.book.specs.Shaped.{Shaped, Whole}
 use Rattle.book.proofs.Laws.But.{sound-but, row-own}
-use Rattle.events.proofs.Laws.ReadySound.{ready-records, ready-opens}
-use Rattle.events.proofs.Laws.GiveUpSound.{give-up-records, give-up-opens}
-use Rattle.events.proofs.Laws.DecideSound.{decide-opens}
-use Rattle.events.proofs.Laws.HearSound.{hear-records}
-use Rattle.begin.proofs.Laws.BeginSound.{Begins, begin-records, begin-opens, free-place}
-use Rattle.events.proofs.Laws.Tests.{Decides, ready-tests, give-up-tests, complete-tests, abort-tests, hear-tests}
-use Rattle.begin.proofs.Laws.Tests.{begin-tests}
-use Rattle.demands.proofs.Calls.{ready-leaves, give-up-leaves, decide-leaves, hear-leaves, begin-leaves}
+use Rattle.book.proofs.Laws.ReadySound.{ready-records, ready-opens}
+use Rattle.book.proofs.Laws.GiveUpSound.{give-up-records, give-up-opens}
+use Rattle.book.proofs.Laws.DecideSound.{decide-opens}
+use Rattle.book.proofs.Laws.HearSound.{hear-records}
+use Rattle.book.proofs.Laws.BeginSound.{Begins, begin-records, begin-opens, free-place}
+use Rattle.book.proofs.Laws.Calls.{Decides, ready-tests, give-up-tests, complete-tests, abort-tests, hear-tests, begin-tests, ready-leaves, give-up-leaves, decide-leaves, hear-leaves, begin-leaves}
 use Rattle.demands.specs.Calls.{begins_with}
 use Rattle.demands.specs.Demands.{open_after}
 use Rattle.demands.proofs.Acts.{Left, done-left, Acts, acts}

@@ -1,13 +1,13 @@
 -- "After any calls on an opened book, refusals among them" (demand 3): calls as data, what each is answered, and the book that a history of them leaves.
 -- Every answer and every book here is that of the definition which the contract of the call cites.
 use Rattle.std.specs.Prelude.{List, ℕ}
-use Rattle.book.specs.declared.answers.Answer.{Answer}
-use Rattle.book.specs.declared.types.Book.{Book}
-use Rattle.begin.specs.Begin.{begin}
-use Rattle.events.specs.Ready.{ready}
-use Rattle.events.specs.GiveUp.{give_up}
-use Rattle.events.specs.Decide.{complete, abort}
-use Rattle.events.specs.Hear.{hear}
+use Rattle.book.specs.declared.Answer.{Answer}
+use Rattle.book.specs.declared.Book.{Book}
+use Rattle.book.specs.Begin.{begin}
+use Rattle.book.specs.Ready.{ready}
+use Rattle.book.specs.GiveUp.{give_up}
+use Rattle.book.specs.Decide.{complete, abort}
+use Rattle.book.specs.Hear.{hear}
 use Rattle.book.specs.Show.{show_answer}
 
 -- a call, with any arguments: a program's bytes; a transaction's number and a district; a transaction's number; an item and the buffer lent for its text

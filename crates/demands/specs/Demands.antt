@@ -14,31 +14,30 @@ use Rattle.polyvalues.specs.Pairs.{at, hits, asked}
 use Rattle.polyvalues.specs.Asked.{asked_as, asked_number}
 use Rattle.polyvalues.specs.Polyvalues.{most_pairs, Complete, WellFormed, in_use}
 use Rattle.polyvalues.specs.Operations.{reduce, select}
-use Rattle.book.specs.declared.types.Book.{Book}
-use Rattle.book.specs.declared.types.Open.{Open}
-use Rattle.book.specs.declared.maker.Opening.{Opening}
-use Rattle.book.specs.declared.types.Record.{Record}
-use Rattle.programs.specs.declared.steps.Step.{Step}
+use Rattle.book.specs.declared.Book.{Book}
+use Rattle.book.specs.declared.Open.{Open}
+use Rattle.book.specs.declared.Opening.{Opening}
+use Rattle.book.specs.declared.Record.{Record}
+use Rattle.book.specs.declared.Step.{Step}
 use Rattle.book.specs.Answers.{answer_number, accepted}
 use Rattle.book.specs.Book.{most_districts, last_number, no_record, no_book, record_at, item_at, open_at, idle, is_open, place_of, free_place, some_depends, some_on, open_of}
-use Rattle.programs.specs.Programs.{steps, run, touches, some_step}
-use Rattle.events.specs.Items.{there}
+use Rattle.book.specs.Programs.{steps, run, touches, some_step}
+use Rattle.book.specs.Items.{there}
 use Rattle.book.specs.Records.{computing_on, busy_on, begin_record, ready_record, hear_record}
 use Rattle.book.specs.Forget.{decided, remembered}
-use Rattle.book.specs.SoundTest.{unsound, sound}
-use Rattle.events.specs.Transactions.{not_open, no_district}
+use Rattle.book.specs.Transactions.{unsound, not_open, no_district}
 use Rattle.book.specs.Open.{no_opening, good_opening, opened}
 use Rattle.book.specs.Sound.{Sound}
-use Rattle.programs.specs.Judged.{bad_program, outside}
-use Rattle.begin.specs.Begin.{held_at, grant, some_busy, too_many, touches_district, begin}
-use Rattle.events.specs.Ready.{reported}
-use Rattle.events.specs.GiveUp.{marked}
-use Rattle.events.specs.Decide.{some_not_ready, with_decision}
-use Rattle.events.specs.Hear.{outcome}
+use Rattle.book.specs.SoundTest.{sound}
+use Rattle.book.specs.Begin.{bad_program, outside, held_at, grant, some_busy, too_many, touches_district, begin}
+use Rattle.book.specs.Ready.{reported}
+use Rattle.book.specs.GiveUp.{marked}
+use Rattle.book.specs.Decide.{some_not_ready, with_decision}
+use Rattle.book.specs.Hear.{outcome}
 use Rattle.book.specs.Show.{held_line, show_answer, shown}
-use Rattle.demands.specs.Examples.{twice, told, Example1, Example2, Example3, Example4, Example5, Example6, Example7, Example8, Example9}
+use Rattle.book.specs.Examples.{twice, told, Example1, Example2, Example3, Example4, Example5, Example6, Example7, Example8, Example9}
 use Rattle.book.specs.Shaped.{Shaped, Whole}
-use Rattle.sheet.specs.declared.kinds.Event.{Event}
+use Rattle.sheet.specs.declared.events.Event.{Event}
 use Rattle.sheet.specs.Readers.{wrong, right}
 use Rattle.sheet.specs.Sections.{Sheet, sheet}
 use Rattle.sheet.specs.Open.{most_bytes, open_sheet}

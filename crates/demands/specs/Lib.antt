@@ -1,5 +1,4 @@
 pub mod Calls
 pub mod Past
 pub mod Playing
-pub mod Examples
 pub mod Demands

@@ -2,11 +2,11 @@
 -- is a call on the book, and the events that the program plays are a history.
 use Rattle.std.specs.Prelude.{◌≡◌, List, [], ◌∷◌, ℕ, ◌-◌, take, drop, replicate}
 use Rattle.conditions.specs.Text.{decimal}
-use Rattle.book.specs.declared.types.Book.{Book}
-use Rattle.begin.specs.Begin.{begin}
+use Rattle.book.specs.declared.Book.{Book}
+use Rattle.book.specs.Begin.{begin}
 use Rattle.book.specs.Show.{held_line}
-use Rattle.sheet.specs.declared.kinds.Event.{Event}
-use Rattle.sheet.specs.declared.kinds.Event.TheVariants.{Begin, Ready, GiveUp, Complete, Abort, Hear, Show}
+use Rattle.sheet.specs.declared.events.Event.{Event}
+use Rattle.sheet.specs.declared.events.Event.TheVariants.{Begin, Ready, GiveUp, Complete, Abort, Hear, Show}
 use Rattle.sheet.specs.Lines.{lent_room}
 use Rattle.sheet.specs.Play.{event_result}
 use Rattle.demands.specs.Calls.{Call, begins_with, readies, gives_up, completes, aborts, hears, shows, answer_to, number_given, book_after, History, nothing, ◌then◌}

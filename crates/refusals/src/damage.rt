@@ -3,10 +3,9 @@
 // That no number given exceeds 65,535 cannot be damaged: it is what the field can hold.
 use crate::polyvalue::{eight_values, two_values};
 use crate::print::answers;
-use book::{Book, DISTRICTS, Item, Open, Record};
+use book::{Book, DISTRICTS, ITEMS, Item, Open, Record};
 use conditions::{PLACES, TransactionNumber};
 use polyvalues::Polyvalue;
-use programs::ITEMS;
 
 // The book with another record of a district.
 fn with_record(b: Book, d: usize, r: Record) -> Book {

@@ -1,7 +1,6 @@
 // A sound book in the middle of a morning, which has something of everything.
-use book::{Book, Opening, Openings, opened};
+use book::{Book, ITEMS, Opening, Openings, opened};
 use conditions::TransactionNumber;
-use programs::ITEMS;
 
 // Four districts with an item each: 5, 8, 3 and 7.
 fn opening() -> Book {
@@ -31,18 +30,18 @@ fn opening() -> Book {
 
 // T1 is completed: district 0 gave up waiting, and its item is 4 or 5; district 1 still waits.
 fn first() -> Book {
-    let b = begin::begin(opening(), b"\x02\x00\xff\xff\x02\x01\x00\x01").book;
+    let b = opening().begin(b"\x02\x00\xff\xff\x02\x01\x00\x01").book;
     let t = TransactionNumber(1);
-    let b = events::ready(b, t, 0).book;
-    let b = events::give_up(b, t, 0).book;
-    let b = events::ready(b, t, 1).book;
-    events::complete(b, t).book
+    let b = b.ready(t, 0).book;
+    let b = b.give_up(t, 0).book;
+    let b = b.ready(t, 1).book;
+    b.complete(t).book
 }
 
 // T2 is computed in district 2 and T4 in district 3; district 0 gave up T3 before it was ready.
 pub(crate) fn book() -> Book {
-    let b = begin::begin(first(), b"\x02\x02\x00\x01").book;
-    let b = begin::begin(b, b"\x02\x00\x00\x00").book;
-    let b = events::give_up(b, TransactionNumber(3), 0).book;
-    begin::begin(b, b"\x02\x03\x00\x01").book
+    let b = first().begin(b"\x02\x02\x00\x01").book;
+    let b = b.begin(b"\x02\x00\x00\x00").book;
+    let b = b.give_up(TransactionNumber(3), 0).book;
+    b.begin(b"\x02\x03\x00\x01").book
 }

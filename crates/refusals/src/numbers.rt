@@ -24,9 +24,9 @@ pub(crate) fn last(b: Book) {
     let many = with_pending(with_held(b, 0, eight_values()), 0, eight_values());
     begun_after(many, 65534, b"\x02\x00\x00\x01");
     begun_after(many, 65535, b"\x02\x00\x00\x01");
-    let five = begin::begin(b, b"\x02\x00\x00\x00").book;
-    let idle = events::give_up(five, TransactionNumber(5), 0).book;
-    let six = begin::begin(idle, b"\x02\x00\x00\x00").book;
-    let full = events::give_up(six, TransactionNumber(6), 0).book;
+    let five = b.begin(b"\x02\x00\x00\x00").book;
+    let idle = five.give_up(TransactionNumber(5), 0).book;
+    let six = idle.begin(b"\x02\x00\x00\x00").book;
+    let full = six.give_up(TransactionNumber(6), 0).book;
     begun_after(full, 65535, b"\x02\x00\x00\x01");
 }

@@ -21,7 +21,7 @@ pub(crate) fn line_end() {
 
 // The answer of begin, and its number and grant.
 pub(crate) fn begun(b: Book, program: &[u8]) {
-    let r = begin::begin(b, program);
+    let r = b.begin(program);
     let given = r.answer;
     answer(given);
     number(r.number.0 as u64);
@@ -32,17 +32,17 @@ pub(crate) fn begun(b: Book, program: &[u8]) {
 // The answers of the seven calls: begin, ready, give up, complete, abort, hear, show.
 pub(crate) fn answers(name: &[u8], b: Book) {
     word(name);
-    let begun = begin::begin(b, b"\x02\x00\x00\x00").answer;
+    let begun = b.begin(b"\x02\x00\x00\x00").answer;
     answer(begun);
-    let ready = events::ready(b, TransactionNumber(2), 2).answer;
+    let ready = b.ready(TransactionNumber(2), 2).answer;
     answer(ready);
-    let gave = events::give_up(b, TransactionNumber(2), 2).answer;
+    let gave = b.give_up(TransactionNumber(2), 2).answer;
     answer(gave);
-    let completed = events::complete(b, TransactionNumber(2)).answer;
+    let completed = b.complete(TransactionNumber(2)).answer;
     answer(completed);
-    let aborted = events::abort(b, TransactionNumber(2)).answer;
+    let aborted = b.abort(TransactionNumber(2)).answer;
     answer(aborted);
-    let heard = events::hear(b, TransactionNumber(1), 1).answer;
+    let heard = b.hear(TransactionNumber(1), 1).answer;
     answer(heard);
     let mut line = [0u8; 64];
     let shown = b.show(0, &mut line).answer;

@@ -10,11 +10,11 @@ use lib.Seq.{sets, sets-eq, length-take-le, drop-append-le, drop-drop}
 use borrow.Author.Tests.{leb-true, not-false}
 use borrow.Rule.Slice.PartMut.{mid_of, put_mid, put_same}
 use Rattle.conditions.specs.Written.{room, written, Put}
-use Rattle.book.specs.declared.answers.Answer.TheVariants.{NoItem, Unsound, ShortBuffer}
-use Rattle.book.specs.declared.types.Book.{Book}
-use Rattle.book.specs.declared.show.Shown.{Shown}
+use Rattle.book.specs.declared.Answer.TheVariants.{NoItem, Unsound, ShortBuffer}
+use Rattle.book.specs.declared.Book.{Book}
+use Rattle.book.specs.declared.Shown.{Shown}
 use Rattle.book.specs.Answers.{accepted}
-use Rattle.book.specs.SoundTest.{unsound}
+use Rattle.book.specs.Transactions.{unsound}
 use Rattle.book.specs.Show.{held_line, show_answer, shown, show}
 use Rattle.book.proofs.Laws.Answers.{test-false, later-accepted}
 use Rattle.sheet.specs.Lines.{lent_room}

@@ -4,8 +4,8 @@ use mathlib.Core.List.{List, []}
 use Prim.Native.Nat.{ℕ, ◌≤◌, ◌<◌}
 use lib.ListN.{length}
 use borrow.Author.Tests.{lt-ltb, le-ltb}
-use Rattle.book.specs.declared.answers.Answer.TheVariants.{Accepted, Malformed, TooLong}
-use Rattle.book.specs.declared.types.Book.{Book}
+use Rattle.book.specs.declared.Answer.TheVariants.{Accepted, Malformed, TooLong}
+use Rattle.book.specs.declared.Book.{Book}
 use Rattle.book.specs.Open.{opened}
 use Rattle.sheet.specs.Readers.{wrong, right}
 use Rattle.sheet.specs.Sections.{Sheet, sheet}

@@ -5,22 +5,31 @@ use mathlib.Core.List.{List, [], ◌∷◌, ◌++◌}
 use Prim.Native.Nat.{ℕ, ◌≤◌, ◌<◌}
 use native.Mathlib.Omega.{arith}
 use lib.ListN.{length, replicate}
-use borrow.Author.Tests.{le-leb, lt-leb}
+use borrow.Author.Tests.{le-leb, lt-leb, eq-eqb, ne_eqb}
 use Rattle.conditions.specs.declared.text.Written.TheVariants.{To, NoRoom}
 use Rattle.conditions.specs.Text.{bytes}
 use Rattle.conditions.specs.Written.{written, Put}
-use Rattle.book.specs.declared.answers.Answer.{Answer}
-use Rattle.book.specs.declared.answers.Answer.TheVariants.{Accepted}
-use Rattle.book.specs.declared.types.Book.{Book}
-use Rattle.book.specs.Answers.{accepted}
+use Rattle.book.specs.declared.Answer.{Answer}
+use Rattle.book.specs.declared.Answer.TheVariants.{Accepted}
+use Rattle.book.specs.declared.Book.{Book}
+use Rattle.book.specs.Answers.{answer_number, accepted}
 use Rattle.book.specs.Show.{held_line, show_answer}
 use Rattle.book.proofs.Laws.Answers.{is-accepted}
-use Rattle.sheet.specs.declared.kinds.Event.{Event}
+use Rattle.sheet.specs.declared.events.Event.{Event}
 use Rattle.sheet.specs.declared.playing.Played.{Played}
 use Rattle.sheet.specs.Lines.{event_line, lent_room, longest_line, line_answer, line_written}
 use Rattle.sheet.specs.Play.{EventResult, of_show, event_result, result_line, played, played_buffer}
 use Rattle.sheet.specs.Plays.{head, Plays}
 use Rattle.sheet.proofs.Writing.{line-written, shown-line, refused-line}
+
+-- ---- the answer number that the code tests
+
+module _ (a : Answer) {n : ℕ} (e : n ≡ answer_number a) where
+  pub number-refused : (n ≡ 0 → ⊥) → accepted a ≡ false
+  number-refused h = ne_eqb (answer_number a) 0 (λ z. h (e ∙ z))
+
+  pub number-accepted : n ≡ 0 → accepted a ≡ true
+  number-accepted z = eq-eqb (answer_number a) 0 (sym e ∙ z)
 
 -- ---- a line in a buffer that has room for it
 

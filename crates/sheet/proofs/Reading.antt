@@ -13,8 +13,8 @@ use borrow.Author.Tests.{le-leb, lt-leb, not-true, not-false}
 use Rattle.conditions.proofs.Laws.Below.{cond_same}
 use Rattle.polyvalues.specs.Values.{in_range, signed, of_bytes}
 use Rattle.sheet.specs.Readers.{Read, wrong, right, and_then, byte, word, part, end, any}
-use Rattle.sheet.specs.declared.kinds.EventAt.{EventAt}
-use Rattle.sheet.specs.declared.kinds.EventAt.TheVariants.{Read as Found, Wrong}
+use Rattle.sheet.specs.declared.events.EventAt.{EventAt}
+use Rattle.sheet.specs.declared.events.EventAt.TheVariants.{Read as Found, Wrong}
 use Rattle.sheet.specs.Events.{at_district, on_number, fields, event, answered, event_at}
 use Rattle.sheet.specs.Sections.{value, item}
 use Rattle.sheet.specs.Told.{Told, told_event}

@@ -5,8 +5,8 @@ use Prim.Native.Nat.{ℕ, suc, ◌+◌, ◌-◌, ◌≤◌, ◌<◌}
 use native.Mathlib.Omega.{arith}
 use lib.ListN.{length, take, set, replicate, length-append}
 use lib.Seq.{set_at, take_at}
-use Rattle.book.specs.declared.maker.Opening.{Opening}
-use Rattle.programs.specs.States.{most_items}
+use Rattle.book.specs.declared.Opening.{Opening}
+use Rattle.book.specs.Book.{most_items}
 use Rattle.book.specs.Open.{no_opening}
 use Rattle.book.specs.Openings.{openings_of}
 use Rattle.sheet.specs.Readers.{Read, wrong, right, repeat, one_more}

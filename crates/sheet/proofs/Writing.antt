@@ -14,8 +14,8 @@ use Rattle.conditions.specs.Text.{bytes, decimal, prefixed, joined}
 use Rattle.conditions.specs.Written.{written, Put}
 use Rattle.conditions.proofs.Laws.Text.{decimal-some, decimal-le, decimal-one, prefixed-snoc}
 use Rattle.conditions.proofs.Putting.{put-length, put_written}
-use Rattle.book.specs.declared.answers.Answer.{Answer}
-use Rattle.book.specs.declared.answers.Answer.TheVariants.{Accepted}
+use Rattle.book.specs.declared.Answer.{Answer}
+use Rattle.book.specs.declared.Answer.TheVariants.{Accepted}
 use Rattle.book.specs.Answers.{answer_number, accepted}
 use Rattle.sheet.specs.Lines.{line, event_line, refusal_line, lent_room, longest_line, line_answer, line_written}
 use Rattle.sheet.specs.Plays.{field, head}

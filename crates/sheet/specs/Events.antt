@@ -1,11 +1,11 @@
 -- "events: `01` steps n (1 byte) and 4n bytes; `02` ready, `03` give up, `06` hear: number (2), district (1); `04` complete, `05` abort: number (2); `07` show: item (1)."
 -- "Step counts, and the numbers, districts and items in events, are judged by the events." (document 01, The sheet and the program)
-use Rattle.std.specs.Prelude.{cond, ◌||◌, List, ℕ, ◌*◌, eqb, drop}
+use Rattle.std.specs.Prelude.{cond, List, ℕ, ◌*◌, eqb, drop}
 use Rattle.conditions.specs.declared.place.TransactionNumber.{TransactionNumber}
-use Rattle.sheet.specs.declared.kinds.Event.{Event}
-use Rattle.sheet.specs.declared.kinds.Event.TheVariants.{Begin, Ready, GiveUp, Complete, Abort, Hear, Show}
-use Rattle.sheet.specs.declared.kinds.EventAt.{EventAt}
-use Rattle.sheet.specs.declared.kinds.EventAt.TheVariants.{Read as Found, Wrong}
+use Rattle.sheet.specs.declared.events.Event.{Event}
+use Rattle.sheet.specs.declared.events.Event.TheVariants.{Begin, Ready, GiveUp, Complete, Abort, Hear, Show}
+use Rattle.sheet.specs.declared.events.EventAt.{EventAt}
+use Rattle.sheet.specs.declared.events.EventAt.TheVariants.{Read as Found, Wrong}
 use Rattle.sheet.specs.Readers.{Read, wrong, right, and_then, byte, word, part, any, between}
 
 -- "steps n (1 byte) and 4n bytes": a begin tells where its program's bytes stand, from the one place up to the other
@@ -24,20 +24,15 @@ on_number event at s = and_then (word any at s) (λ n at s. right (event (record
 unfoldable pub of_item : ℕ → List ℕ → Read Event
 of_item at s = and_then (byte any at s) (λ i at s. right (Show i) at s)
 
--- "`02` ready, `03` give up, `06` hear"
-abbrev pub district_event : ℕ → TransactionNumber → ℕ → Event
-district_event kind n d = cond (eqb kind 2) (Ready n d) (cond (eqb kind 3) (GiveUp n d) (Hear n d))
-
--- "`04` complete, `05` abort"
-abbrev pub number_event : ℕ → TransactionNumber → Event
-number_event kind n = cond (eqb kind 4) (Complete n) (Abort n)
-
--- what stands behind an event's kind, where it is one of the seven: `01` a program, `04` and `05` a number, `07` an item, the others a number and a district
+-- what stands behind an event's kind, where it is one of these; hear is the one left
 unfoldable pub fields : ℕ → ℕ → List ℕ → Read Event
 fields kind at s =
     cond (eqb kind 1) (program at s)
-    (cond (eqb kind 4 || eqb kind 5) (on_number (number_event kind) at s)
-    (cond (eqb kind 7) (of_item at s) (at_district (district_event kind) at s)))
+    (cond (eqb kind 2) (at_district Ready at s)
+    (cond (eqb kind 3) (at_district GiveUp at s)
+    (cond (eqb kind 4) (on_number Complete at s)
+    (cond (eqb kind 5) (on_number Abort at s)
+    (cond (eqb kind 7) (of_item at s) (at_district Hear at s))))))
 
 -- an event: a kind that is none of these is a wrong byte
 unfoldable pub event : ℕ → List ℕ → Read Event

@@ -1,8 +1,8 @@
 -- "Open. Only a good sheet opens a book" (document 01, Events), "13: sheet malformed", "14: sheet over 32,768 bytes" and "a call that makes a book returns, refused, the
 -- all-zero book" (Answer numbers), "14 comes before 13, place 0" (The sheet and the program)
 use Rattle.std.specs.Prelude.{Bool, cond, List, ℕ, ltb, length}
-use Rattle.book.specs.declared.answers.Answer.{Answer}
-use Rattle.book.specs.declared.answers.Answer.TheVariants.{Accepted, Malformed, TooLong}
+use Rattle.book.specs.declared.Answer.{Answer}
+use Rattle.book.specs.declared.Answer.TheVariants.{Accepted, Malformed, TooLong}
 use Rattle.book.specs.Book.{no_book}
 use Rattle.book.specs.Open.{opened}
 use Rattle.sheet.specs.declared.opening.Opened.{Opened}

@@ -1,10 +1,10 @@
 -- "The program reads one sheet from standard input. A refused sheet prints only `sheet`, number, place. Otherwise each event prints .. Last line `end`." (document 01, The
 -- sheet and the program): all that it prints, as one text.
 use Rattle.std.specs.Prelude.{cond, List, [], ◌∷◌, ◌++◌, ℕ, suc}
-use Rattle.book.specs.declared.answers.Answer.TheVariants.{Malformed, TooLong}
-use Rattle.book.specs.declared.types.Book.{Book}
+use Rattle.book.specs.declared.Answer.TheVariants.{Malformed, TooLong}
+use Rattle.book.specs.declared.Book.{Book}
 use Rattle.book.specs.Open.{opened}
-use Rattle.sheet.specs.declared.kinds.Event.{Event}
+use Rattle.sheet.specs.declared.events.Event.{Event}
 use Rattle.sheet.specs.Readers.{Read, wrong, right}
 use Rattle.sheet.specs.Sections.{Sheet, sheet}
 use Rattle.sheet.specs.Open.{too_long}

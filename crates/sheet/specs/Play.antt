@@ -2,18 +2,18 @@
 -- a line end; the program lends it 65,536 bytes." (The sheet and the program)
 use Rattle.std.specs.Prelude.{cond, List, [], ◌∷◌, ℕ, ◌-◌, take, drop, replicate}
 use Rattle.conditions.specs.Text.{decimal}
-use Rattle.book.specs.declared.answers.Answer.{Answer}
-use Rattle.book.specs.declared.types.Book.{Book}
-use Rattle.begin.specs.declared.beginning.Begun.{Begun}
-use Rattle.events.specs.declared.transactions.Done.{Done}
-use Rattle.begin.specs.Begin.{begin}
-use Rattle.events.specs.Ready.{ready}
-use Rattle.events.specs.GiveUp.{give_up}
-use Rattle.events.specs.Decide.{complete, abort}
-use Rattle.events.specs.Hear.{hear}
+use Rattle.book.specs.declared.Answer.{Answer}
+use Rattle.book.specs.declared.Book.{Book}
+use Rattle.book.specs.declared.Begun.{Begun}
+use Rattle.book.specs.declared.Done.{Done}
+use Rattle.book.specs.Begin.{begin}
+use Rattle.book.specs.Ready.{ready}
+use Rattle.book.specs.GiveUp.{give_up}
+use Rattle.book.specs.Decide.{complete, abort}
+use Rattle.book.specs.Hear.{hear}
 use Rattle.book.specs.Show.{held_line, show_answer}
-use Rattle.sheet.specs.declared.kinds.Event.{Event}
-use Rattle.sheet.specs.declared.kinds.Event.TheVariants.{Begin, Ready, GiveUp, Complete, Abort, Hear, Show}
+use Rattle.sheet.specs.declared.events.Event.{Event}
+use Rattle.sheet.specs.declared.events.Event.TheVariants.{Begin, Ready, GiveUp, Complete, Abort, Hear, Show}
 use Rattle.sheet.specs.declared.playing.Played.{Played}
 use Rattle.sheet.specs.Lines.{event_line, lent_room, roomy, line_answer, line_written}
 

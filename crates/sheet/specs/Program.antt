@@ -2,11 +2,11 @@
 -- sheet and the program): what the program's main makes of the calls. It opens the sheet, and then takes each event with event_at from the place behind the one before it,
 -- and plays it on the book that the one before it left. Laws/Walk shows that this is `output`.
 use Rattle.std.specs.Prelude.{◌≡◌, cond, List, [], ◌∷◌, ◌++◌, ℕ, zero, suc, length}
-use Rattle.book.specs.declared.types.Book.{Book}
+use Rattle.book.specs.declared.Book.{Book}
 use Rattle.book.specs.Answers.{accepted}
-use Rattle.sheet.specs.declared.kinds.Event.{Event}
-use Rattle.sheet.specs.declared.kinds.EventAt.{EventAt}
-use Rattle.sheet.specs.declared.kinds.EventAt.TheVariants.{Read as Found, Wrong}
+use Rattle.sheet.specs.declared.events.Event.{Event}
+use Rattle.sheet.specs.declared.events.EventAt.{EventAt}
+use Rattle.sheet.specs.declared.events.EventAt.TheVariants.{Read as Found, Wrong}
 use Rattle.sheet.specs.declared.opening.Opened.{Opened}
 use Rattle.sheet.specs.Events.{event_at}
 use Rattle.sheet.specs.Sections.{Events}

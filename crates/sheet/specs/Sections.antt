@@ -1,10 +1,9 @@
 -- "Sections in a fixed order, each after its count" (document 01, The sheet and the program)
 use Rattle.std.specs.Prelude.{List, [], ℕ, ltb, ℤ}
 use Rattle.polyvalues.specs.Values.{in_range, signed}
-use Rattle.book.specs.declared.maker.Opening.{Opening}
-use Rattle.book.specs.Book.{most_districts}
-use Rattle.programs.specs.States.{most_items}
-use Rattle.sheet.specs.declared.kinds.Event.{Event}
+use Rattle.book.specs.declared.Opening.{Opening}
+use Rattle.book.specs.Book.{most_districts, most_items}
+use Rattle.sheet.specs.declared.events.Event.{Event}
 use Rattle.sheet.specs.Readers.{Read, right, and_then, repeat, one_more, byte, word, end, any, between}
 use Rattle.sheet.specs.Events.{event}
 

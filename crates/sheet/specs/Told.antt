@@ -1,8 +1,8 @@
 -- What a reader of the sheet s answers, as the code keeps it: whether nothing is wrong, the place behind what was read or the place that is wrong, and what was read.
 use Rattle.std.specs.Prelude.{◌≡◌, Bool, cond, List, ℕ, drop}
-use Rattle.sheet.specs.declared.kinds.Event.{Event}
-use Rattle.sheet.specs.declared.kinds.EventAt.{EventAt}
-use Rattle.sheet.specs.declared.kinds.EventAt.TheVariants.{Read as Found, Wrong}
+use Rattle.sheet.specs.declared.events.Event.{Event}
+use Rattle.sheet.specs.declared.events.EventAt.{EventAt}
+use Rattle.sheet.specs.declared.events.EventAt.TheVariants.{Read as Found, Wrong}
 use Rattle.sheet.specs.Readers.{Read, wrong, right}
 
 -- the reader answers r

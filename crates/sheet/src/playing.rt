@@ -5,12 +5,10 @@ ghost use Rattle.sheet.specs.Lines.{longest_line};
 ghost use Rattle.sheet.specs.Play.{of_begun, of_done, of_show, played, played_buffer};
 ghost use Rattle.sheet.specs.Plays.{Plays};
 
-use crate::kinds::Event;
+use crate::events::Event;
 use crate::lines::{LENT, LONGEST_LINE, put_byte, put_field, put_head, put_plain};
-use begin::Begun;
-use book::{Answer, Book};
+use book::{Answer, Begun, Book, Done};
 use conditions::Written;
-use events::Done;
 
 // What playing an event gives: where its line ends, and the book that the next event takes. Where the
 // buffer is too short, nothing was played.
@@ -114,25 +112,13 @@ pub fn play(book: Book, sheet: &[u8], event: Event, position: u64, buf: &mut [u8
     match event {
         Event::Begin { from, to } => {
             let steps = between(sheet, from, to);
-            begun(begin::begin(book, steps), position, buf)
+            begun(book.begin(steps), position, buf)
         }
-        Event::Ready { number, district } => done(
-            events::ready(book, number, district),
-            position,
-            buf,
-        ),
-        Event::GiveUp { number, district } => done(
-            events::give_up(book, number, district),
-            position,
-            buf,
-        ),
-        Event::Complete { number } => done(events::complete(book, number), position, buf),
-        Event::Abort { number } => done(events::abort(book, number), position, buf),
-        Event::Hear { number, district } => done(
-            events::hear(book, number, district),
-            position,
-            buf,
-        ),
+        Event::Ready { number, district } => done(book.ready(number, district), position, buf),
+        Event::GiveUp { number, district } => done(book.give_up(number, district), position, buf),
+        Event::Complete { number } => done(book.complete(number), position, buf),
+        Event::Abort { number } => done(book.abort(number), position, buf),
+        Event::Hear { number, district } => done(book.hear(number, district), position, buf),
         Event::Show { item } => shown(book, item, position, buf),
     }
 }

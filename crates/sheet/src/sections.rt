@@ -1,17 +1,16 @@
 // The sections of a sheet: districts, items and events.
 ghost use Rattle.std.specs.Prelude.{List, [], ◌≤◌, drop};
-ghost use Rattle.programs.specs.States.{most_items};
+ghost use Rattle.book.specs.Book.{most_items};
 ghost use Rattle.book.specs.Openings.{openings_of};
-ghost use Rattle.sheet.specs.declared.kinds.Event.{Event};
+ghost use Rattle.sheet.specs.declared.events.Event.{Event};
 ghost use Rattle.sheet.specs.Readers.{repeat, one_more};
 ghost use Rattle.sheet.specs.Events.{event};
 ghost use Rattle.sheet.specs.Sections.{code, districts, item, items, events};
 ghost use Rattle.sheet.specs.Told.{Told};
 
-use crate::kinds::{EventAt, event_at};
+use crate::events::{EventAt, event_at};
 use crate::readers::{Number, byte, byte_between, value, word};
-use book::{DISTRICTS, Opening, Openings};
-use programs::ITEMS;
+use book::{DISTRICTS, ITEMS, Opening, Openings};
 
 // An item that was read.
 #[derive(Drop)]

@@ -1,12 +1,10 @@
 -- A call is accepted where no test holds, and its answer is then `Accepted`.
-use mathlib.Core.Path.{◌≡◌, refl, sym, ◌∙◌}
-use mathlib.Core.Bool.{Bool, true, false, true≢false, false≢true}
-use mathlib.Core.List.{List, [], ◌∷◌, ◌++◌}
-use Prim.Native.Nat.{ℕ}
-use borrow.Author.Tests.{eq-eqb, ne_eqb}
-use Rattle.book.specs.declared.answers.Answer.{Answer}
-use Rattle.book.specs.declared.answers.Answer.TheVariants.{Accepted, NoDistrict, NoItem, BadProgram, NotOpen, NotIdle, AllOpen, NumbersGiven, TooManyValues, NotOnIt, AlreadyDecided, NotReady, NotDecided, Malformed, TooLong, Unsound, ShortBuffer}
-use Rattle.book.specs.Answers.{answer_number, accepted, first_of}
+use mathlib.Core.Path.{◌≡◌, refl}
+use mathlib.Core.Bool.{Bool, true, false, false≢true}
+use mathlib.Core.List.{List, ◌∷◌}
+use Rattle.book.specs.declared.Answer.{Answer}
+use Rattle.book.specs.declared.Answer.TheVariants.{Accepted, NoDistrict, NoItem, BadProgram, NotOpen, NotIdle, AllOpen, NumbersGiven, TooManyValues, NotOnIt, AlreadyDecided, NotReady, NotDecided, Malformed, TooLong, Unsound, ShortBuffer}
+use Rattle.book.specs.Answers.{accepted, first_of}
 
 -- the number 0 is given for one answer alone
 pub is-accepted : (a : Answer) → accepted a ≡ true → a ≡ Accepted
@@ -39,18 +37,3 @@ pub later-accepted : (t : Bool) (a : Answer) (more : List (Bool × Answer)) → 
 unfolding first_of
 later-accepted true a more refused e = absurd (false≢true (rw refused at e))
 later-accepted false a more refused e = e
-
--- where one of the first tests holds, no later one is asked
-pub refused-early : (early more : List (Bool × Answer)) → accepted (first_of early) ≡ false → first_of (early ++ more) ≡ first_of early
-unfolding first_of
-refused-early [] more e = absurd (true≢false e)
-refused-early ((true, a) ∷ early) more e = refl
-refused-early ((false, a) ∷ early) more e = refused-early early more e
-
--- the answer number that the code tests
-module _ (a : Answer) {n : ℕ} (e : n ≡ answer_number a) where
-  pub number-refused : (n ≡ 0 → ⊥) → accepted a ≡ false
-  number-refused h = ne_eqb (answer_number a) 0 (λ z. h (e ∙ z))
-
-  pub number-accepted : n ≡ 0 → accepted a ≡ true
-  number-accepted z = eq-eqb (answer_number a) 0 (sym e ∙ z)

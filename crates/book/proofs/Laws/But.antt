@@ -10,12 +10,11 @@ use Rattle.conditions.specs.Sets.{member}
 use Rattle.conditions.proofs.Laws.Below.{and_left, and_right, by_cases, any_none, none_any, is-first, first-le, first_passes, before-first}
 use Rattle.polyvalues.specs.Polyvalues.{most_pairs, in_use, sound as sound_polyvalue}
 use Rattle.polyvalues.specs.Operations.{together}
-use Rattle.book.specs.declared.types.Record.{Record}
-use Rattle.book.specs.declared.types.Item.{Item}
-use Rattle.book.specs.declared.types.Open.{Open}
-use Rattle.book.specs.declared.types.Book.{Book}
-use Rattle.book.specs.Book.{most_districts, last_number, no_record, no_item, no_open, record_at, item_at, open_at, idle, computing, record_on, item_on, is_open, named, place_of, item_depends, some_depends, open_of}
-use Rattle.programs.specs.States.{most_items}
+use Rattle.book.specs.declared.Record.{Record}
+use Rattle.book.specs.declared.Item.{Item}
+use Rattle.book.specs.declared.Open.{Open}
+use Rattle.book.specs.declared.Book.{Book}
+use Rattle.book.specs.Book.{most_districts, most_items, last_number, no_record, no_item, no_open, record_at, item_at, open_at, idle, computing, record_on, item_on, is_open, named, place_of, item_depends, some_depends, open_of}
 use Rattle.book.specs.Records.{computing_on, waiting_on, busy_on}
 use Rattle.book.specs.Forget.{needed}
 use Rattle.book.specs.Sound.{EachOpen, Sound}

@@ -6,12 +6,11 @@ use Prim.Native.Nat.{ℕ, ◌≤◌, ◌<◌}
 use lib.Dec.{eqb}
 use borrow.Author.Tests.{ne_eqb}
 use Rattle.conditions.proofs.Laws.Below.{by_cases}
-use Rattle.book.specs.declared.types.Record.{Record}
-use Rattle.book.specs.declared.types.Item.{Item}
-use Rattle.book.specs.declared.types.Open.{Open}
-use Rattle.book.specs.declared.types.Book.{Book}
-use Rattle.book.specs.Book.{most_districts, no_record, no_item, record_at, item_at, open_at, item_on, is_open, place_of, item_depends, with_records, with_items, with_open}
-use Rattle.programs.specs.States.{most_items}
+use Rattle.book.specs.declared.Record.{Record}
+use Rattle.book.specs.declared.Item.{Item}
+use Rattle.book.specs.declared.Open.{Open}
+use Rattle.book.specs.declared.Book.{Book}
+use Rattle.book.specs.Book.{most_districts, most_items, no_record, no_item, record_at, item_at, open_at, item_on, is_open, place_of, item_depends, with_records, with_items, with_open}
 use Rattle.book.proofs.Laws.But.{DistrictRow, ItemRow, OpenRow, SoundBut, place_of-same, row-alike}
 
 -- the book with these tables

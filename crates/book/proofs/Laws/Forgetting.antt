@@ -6,9 +6,9 @@ use native.Mathlib.Omega.{arith}
 use lib.Dec.{eqb}
 use borrow.Author.Tests.{eq-eqb, eqb-false, not-true}
 use Rattle.conditions.proofs.Laws.Below.{or_right, by_cases, any_none, any_of}
-use Rattle.book.specs.declared.types.Record.{Record}
-use Rattle.book.specs.declared.types.Open.{Open}
-use Rattle.book.specs.declared.types.Book.{Book}
+use Rattle.book.specs.declared.Record.{Record}
+use Rattle.book.specs.declared.Open.{Open}
+use Rattle.book.specs.declared.Book.{Book}
 use Rattle.book.specs.Book.{no_open, record_at, item_at, open_at, idle, record_on, item_on, is_open, named, place_of, item_depends, some_depends, some_on}
 use Rattle.book.specs.Forget.{decided, needed, kept, remembered, forget}
 use Rattle.book.specs.Sound.{Sound}

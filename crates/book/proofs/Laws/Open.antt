@@ -13,18 +13,17 @@ use Rattle.polyvalues.specs.Polyvalues.{sound as sound_polyvalue}
 use Rattle.polyvalues.proofs.Laws.Depends.{certain-free}
 use Rattle.polyvalues.proofs.Laws.WellFormed.{certain-well-formed}
 use Rattle.polyvalues.proofs.Laws.Packed.{in_use-packed, packed-sound}
-use Rattle.book.specs.declared.types.Book.{Book}
-use Rattle.book.specs.declared.types.Item.{Item}
-use Rattle.book.specs.declared.maker.Opening.{Opening}
-use Rattle.book.specs.Book.{most_districts, no_record, no_item, no_open, no_book, void_item, record_at, item_at, open_at, record_on, item_on, is_open, item_depends}
-use Rattle.programs.specs.States.{most_items}
+use Rattle.book.specs.declared.Book.{Book}
+use Rattle.book.specs.declared.Item.{Item}
+use Rattle.book.specs.declared.Opening.{Opening}
+use Rattle.book.specs.Book.{most_districts, most_items, no_record, no_item, no_open, no_book, void_item, record_at, item_at, open_at, record_on, item_on, is_open, item_depends}
 use Rattle.book.specs.Sound.{Sound}
 use Rattle.book.specs.SoundTest.{sound}
 use Rattle.book.specs.Open.{no_opening, good_item, good_items, good_opening, opened_item, opened_book, opened}
 use Rattle.book.proofs.Laws.Rows.{made_row, padded-row}
 use Rattle.book.proofs.Laws.Sound.{test-sound}
 use Rattle.book.proofs.Laws.But.{idle-district, but-sound}
-use Rattle.book.proofs.Laws.Items.{idle-row}
+use Rattle.book.proofs.Laws.Settling.{idle-row}
 
 -- "the all-zero book, which is not sound"
 pub no-book-unsound : (w : ℕ) → sound w (no_book w) ≡ false

@@ -8,9 +8,8 @@ use lib.Dec.{leb, ltb}
 use lib.ListN.{length, get_or, replicate, length-append, length-map, length-replicate}
 use borrow.Author.Tests.{leb-true, ltb-true, ltb-false}
 use Rattle.polyvalues.specs.Pairs.{certain}
-use Rattle.book.specs.declared.maker.Opening.{Opening}
-use Rattle.book.specs.Book.{most_districts, no_record, no_item, no_open, void_item}
-use Rattle.programs.specs.States.{most_items}
+use Rattle.book.specs.declared.Opening.{Opening}
+use Rattle.book.specs.Book.{most_districts, most_items, no_record, no_item, no_open, void_item}
 use Rattle.book.specs.Open.{no_opening, good_items, good_opening, opened_item, opened_book, opened}
 use Rattle.conditions.proofs.Laws.Below.{by_cases, five}
 use Rattle.book.proofs.Laws.Rows.{made_row, padded-row}

@@ -3,8 +3,7 @@ use mathlib.Core.Path.{◌≡◌}
 use Prim.Native.Nat.{ℕ, ◌≤◌, ◌<◌}
 use borrow.Author.Tests.{le-leb, lt-leb}
 use Rattle.book.specs.declared.maker.Openings.{Openings}
-use Rattle.programs.specs.States.{most_items}
-use Rattle.book.specs.Book.{no_book}
+use Rattle.book.specs.Book.{most_items, no_book}
 use Rattle.book.specs.Open.{opened}
 use Rattle.book.specs.Openings.{openings_of, opened_rows}
 

@@ -14,7 +14,7 @@ use Rattle.polyvalues.specs.Operations.{reduce, select, occurs, together}
 use Rattle.polyvalues.proofs.Laws.Operations.{reduce-count}
 use Rattle.polyvalues.proofs.Laws.Packed.{sound-well-formed}
 use Rattle.polyvalues.proofs.Laws.Room.{occurs-append, occurs-first, occurs-second, occurs-reduce, different-le, different-rising, select-count}
-use Rattle.book.specs.declared.types.Book.{Book}
+use Rattle.book.specs.declared.Book.{Book}
 use Rattle.book.specs.Book.{item_at}
 use Rattle.book.specs.Sound.{Sound}
 

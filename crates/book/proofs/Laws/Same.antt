@@ -18,9 +18,9 @@ use Rattle.polyvalues.specs.Polyvalues.{paired}
 use Rattle.polyvalues.proofs.Laws.Values.{equal-refl, equal-true}
 use Rattle.polyvalues.proofs.Laws.Holds.{same-pair}
 use Rattle.polyvalues.specs.Operations.{same_rows, same_pair, same}
-use Rattle.book.specs.declared.types.Record.{Record}
-use Rattle.book.specs.declared.types.Item.{Item}
-use Rattle.book.specs.declared.types.Open.{Open}
+use Rattle.book.specs.declared.Record.{Record}
+use Rattle.book.specs.declared.Item.{Item}
+use Rattle.book.specs.declared.Open.{Open}
 use Rattle.book.specs.Book.{no_record, no_open}
 use Rattle.book.specs.SoundTest.{same_condition, same_polyvalue, same_item, zero_record, zero_open}
 

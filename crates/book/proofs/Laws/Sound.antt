@@ -10,12 +10,11 @@ use Rattle.conditions.specs.Sets.{member}
 use Rattle.conditions.proofs.Laws.Below.{and_left, and_right, by_cases, three, five, eight, all-at, all_of, any_none, first_passes}
 use Rattle.polyvalues.specs.Polyvalues.{most_pairs, in_use, sound as sound_polyvalue}
 use Rattle.polyvalues.specs.Operations.{together}
-use Rattle.book.specs.declared.types.Record.{Record}
-use Rattle.book.specs.declared.types.Item.{Item}
-use Rattle.book.specs.declared.types.Open.{Open}
-use Rattle.book.specs.declared.types.Book.{Book}
-use Rattle.book.specs.Book.{most_districts, last_number, no_item, record_at, item_at, open_at, idle, waiting, item_on, is_open, named, place_of, record_on, item_depends, some_depends, open_of}
-use Rattle.programs.specs.States.{most_items}
+use Rattle.book.specs.declared.Record.{Record}
+use Rattle.book.specs.declared.Item.{Item}
+use Rattle.book.specs.declared.Open.{Open}
+use Rattle.book.specs.declared.Book.{Book}
+use Rattle.book.specs.Book.{most_districts, most_items, last_number, no_item, record_at, item_at, open_at, idle, waiting, item_on, is_open, named, place_of, record_on, item_depends, some_depends, open_of}
 use Rattle.book.specs.Forget.{kept}
 use Rattle.book.specs.Sound.{Sound}
 use Rattle.book.specs.SoundTest.{zero_record, zero_open, sound_busy, sound_record, sound_district, sound_pending, sound_row, sound_item, sound_at, sound_open, sound_place, sound}

@@ -10,10 +10,9 @@ use lib.ListN.{length, length-append}
 use Rattle.conditions.proofs.Laws.Below.{and_left, and_right, by_cases}
 use Rattle.polyvalues.specs.Values.{in_range, signed}
 use Rattle.polyvalues.proofs.Laws.Operations.{each_append}
-use Rattle.book.specs.declared.maker.Opening.{Opening}
+use Rattle.book.specs.declared.Opening.{Opening}
 use Rattle.book.specs.Answers.{accepted}
-use Rattle.book.specs.Book.{most_districts, no_book}
-use Rattle.programs.specs.States.{most_items}
+use Rattle.book.specs.Book.{most_districts, most_items, no_book}
 use Rattle.book.specs.Open.{good_item, good_items, good_opening, opened}
 use Rattle.book.specs.Shaped.{Whole}
 use Rattle.book.proofs.Laws.OpenedShaped.{opened-whole}

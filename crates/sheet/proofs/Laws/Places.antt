@@ -8,10 +8,9 @@ use lib.ListN.{length, drop}
 use lib.Seq.{drop-drop}
 use Rattle.conditions.specs.declared.place.TransactionNumber.{TransactionNumber}
 use Rattle.polyvalues.specs.Values.{in_range, signed}
-use Rattle.book.specs.Book.{most_districts}
-use Rattle.programs.specs.States.{most_items}
-use Rattle.sheet.specs.declared.kinds.Event.{Event}
-use Rattle.sheet.specs.declared.kinds.Event.TheVariants.{Begin, Ready, GiveUp, Complete, Abort, Hear, Show}
+use Rattle.book.specs.Book.{most_districts, most_items}
+use Rattle.sheet.specs.declared.events.Event.{Event}
+use Rattle.sheet.specs.declared.events.Event.TheVariants.{Begin, Ready, GiveUp, Complete, Abort, Hear, Show}
 use Rattle.sheet.specs.Readers.{Read, wrong, right, and_then, repeat, one_more, byte, word, part, any, between}
 use Rattle.sheet.specs.Events.{program, at_district, on_number, of_item, fields, event}
 use Rattle.sheet.specs.Sections.{code, districts, value, item, items}

@@ -19,19 +19,18 @@ use Rattle.polyvalues.specs.Text.{pair_text, line_text}
 use Rattle.book.specs.Answers.{first_of}
 use Rattle.book.specs.Rows.{rows_from}
 use Rattle.book.specs.Book.{no_item, no_book, record_on, item_on, place_of, free_place, item_depends, some_depends, some_on}
-use Rattle.programs.specs.Programs.{steps, declines, after, after_all, declined_from, run, names, touches}
+use Rattle.book.specs.Programs.{steps, declines, after, after_all, declined_from, run, names, touches}
 use Rattle.book.specs.Forget.{needed as needed_book_forget, kept, remembered, forget}
 use Rattle.book.specs.SoundTest.{same_polyvalue, same_item, zero_record, zero_open, sound_busy, sound_record, sound_district, sound_pending, sound_row, sound_item, sound_at, sound_open, sound_place, sound as sound_book_sound_test}
 use Rattle.book.specs.Records.{computing_on, waiting_on, busy_on, hear_record}
-use Rattle.events.specs.Items.{concerned, split, reduce_item}
-use Rattle.events.specs.Transactions.{done}
+use Rattle.book.specs.Items.{concerned, split, reduce_item}
+use Rattle.book.specs.Transactions.{done}
 use Rattle.book.specs.Open.{good_opening, opened_item, opened_book, opened}
-use Rattle.programs.specs.Judged.{bad_step, bad_program, outside}
-use Rattle.begin.specs.Begin.{results, grant, some_busy, too_many, begin_answer, touches_district, begin_item, begun, begin}
-use Rattle.events.specs.Ready.{ready_answer, readied, ready}
-use Rattle.events.specs.GiveUp.{give_up_answer, give_up_item, gave_up, give_up}
-use Rattle.events.specs.Decide.{some_not_ready, complete_answer, abort_answer, decide, complete, abort}
-use Rattle.events.specs.Hear.{hear_answer, hear_item, heard, hear}
+use Rattle.book.specs.Begin.{bad_step, bad_program, outside, results, grant, some_busy, too_many, begin_answer, touches_district, begin_item, begun, begin}
+use Rattle.book.specs.Ready.{ready_answer, readied, ready}
+use Rattle.book.specs.GiveUp.{give_up_answer, give_up_item, gave_up, give_up}
+use Rattle.book.specs.Decide.{some_not_ready, complete_answer, abort_answer, decide, complete, abort}
+use Rattle.book.specs.Hear.{hear_answer, hear_item, heard, hear}
 use Rattle.book.specs.Show.{held_line, show_answer, shown, show}
 use Rattle.book.proofs.Laws.Same.{same-rows}
 use Rattle.sheet.specs.Readers.{repeat, one_more, byte, word, part, end}

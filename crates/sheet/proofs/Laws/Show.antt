@@ -3,7 +3,7 @@ use mathlib.Core.Path.{◌≡◌}
 use mathlib.Core.List.{List}
 use Prim.Native.Nat.{ℕ}
 use lib.ListN.{length}
-use Rattle.book.specs.declared.types.Book.{Book}
+use Rattle.book.specs.declared.Book.{Book}
 use Rattle.book.specs.Show.{show_answer}
 
 pub answer-by-length : (w : ℕ) (b : Book) (i : ℕ) (l m : List ℕ) → length l ≡ length m → show_answer w b i l ≡ show_answer w b i m

@@ -6,10 +6,10 @@ use mathlib.Core.List.{List, [], ◌∷◌, ◌++◌, append-nil, append_assoc}
 use Prim.Native.Nat.{ℕ, zero, suc}
 use lib.ListN.{length, drop}
 use Rattle.conditions.proofs.Laws.Below.{by_cases}
-use Rattle.book.specs.declared.types.Book.{Book}
+use Rattle.book.specs.declared.Book.{Book}
 use Rattle.book.specs.Answers.{accepted}
-use Rattle.sheet.specs.declared.kinds.Event.{Event}
-use Rattle.sheet.specs.declared.kinds.EventAt.TheVariants.{Read as Found}
+use Rattle.sheet.specs.declared.events.Event.{Event}
+use Rattle.sheet.specs.declared.events.EventAt.TheVariants.{Read as Found}
 use Rattle.sheet.specs.Readers.{Read, wrong, right, repeat, one_more, word, any}
 use Rattle.sheet.specs.Events.{event, answered, event_at}
 use Rattle.sheet.specs.Sections.{Events, Sheet, districts, items, events, sheet}

@@ -9,10 +9,10 @@ use Rattle.conditions.proofs.Laws.Below.{all_more, all-fails}
 use borrow.Author.Rules.{rules}
 use borrow.Author.Tests.{not-true, not-false}
 use Rattle.conditions.specs.Places.{places as width}
-use Rattle.book.specs.declared.types.Book.{Book}
+use Rattle.book.specs.declared.Book.{Book}
 use Rattle.book.specs.Book.{most_districts}
 use Rattle.book.specs.Tables.{TablesOf}
-use Rattle.book.proofs.Ties.Items.{district-in}
+use Rattle.book.proofs.Depended.{district-in}
 use Rattle.book.specs.SoundTest.{sound_district}
 use Rattle.book.proofs.district_sound.sound_districts.Statement.{statement}
 use Rattle.book.proofs.district_sound.sound_districts.Tie as tie

@@ -3,7 +3,7 @@ use borrow.Author.Rules.{rules}
 use mathlib.Core.Path.{sym, ◌∙◌}
 use borrow.Author.Tests.{eq-eqb, ne_eqb, le-leb, lt-leb, le-ltb}
 use Rattle.book.specs.SoundTest.{sound_busy, sound_record}
-use Rattle.book.proofs.Ties.Sound.{place_in}
+use Rattle.book.proofs.Testing.{place_in}
 use Rattle.book.proofs.district_sound.sound_record.Statement.{statement}
 use Rattle.book.proofs.district_sound.sound_record.Tie as tie
 
@@ -37,7 +37,7 @@ returns-4 : tie.Need-returns-4
 unfolding sound_record
 returns-4 c = λ b e.
     let place = place_in b c.before.before.before.before.before.before.before.before.before.before.args.x.transaction.0 e c.before.before.before.before.place_of.ensures in
-    c.sound-busy.ensures c.before.before.before.before.place_of.result.0 c.before.before.before.if3.false
+    c.sound-busy.ensures c.before.before.before.before.place_of.result c.before.before.before.if3.false
     ∙ rw (le-leb _ _ c.before.before.before.before.before.before.before.before.if1.false, ne_eqb _ _ c.before.before.before.before.before.before.if2.false, sym place, e)
 
 pub sound-record-spec : {M : Type 1} → statement M

@@ -4,7 +4,7 @@ use mathlib.Core.Path.{◌∙◌}
 use borrow.Author.Tests.{eq-eqb, ne_eqb}
 use Rattle.polyvalues.proofs.Known.{Held}
 use Rattle.book.specs.SoundTest.{same_polyvalue}
-use Rattle.book.proofs.Ties.Sound.{whole_same}
+use Rattle.book.proofs.Testing.{whole_same}
 use Rattle.book.proofs.item_sound.same_polyvalue.Statement.{statement}
 use Rattle.book.proofs.item_sound.same_polyvalue.Tie as tie
 

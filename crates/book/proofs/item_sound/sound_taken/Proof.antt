@@ -7,8 +7,8 @@ use lib.Dec.{leb}
 use borrow.Author.Tests.{not-true, not-false}
 use Rattle.conditions.specs.Places.{places}
 use Rattle.polyvalues.specs.Polyvalues.{most_pairs}
-use Rattle.book.proofs.Ties.Items.{set-member}
-use Rattle.book.proofs.Ties.Sound.{place_in}
+use Rattle.book.proofs.Depended.{set-member}
+use Rattle.book.proofs.Testing.{place_in}
 use Rattle.book.proofs.item_sound.sound_taken.Statement.{statement}
 use Rattle.book.proofs.item_sound.sound_taken.Tie as tie
 
@@ -32,7 +32,7 @@ has-requires c κs = search rules
 
 returns-3 : tie.Need-returns-3
 returns-3 c =
-    λ b e f. rw (← (place_in b c.before.before.before.before.before.before.before.args.n.0 e c.before.before.place_of.ensures), sym (set-member places c.before.before.before.before.before.before.before.args.x c.before.before.place_of.result.0 f) ∙ sym c.before.has.ensures ∙ c.if3.true, and-false)
+    λ b e f. rw (← (place_in b c.before.before.before.before.before.before.before.args.n e c.before.before.place_of.ensures), sym (set-member places c.before.before.before.before.before.before.before.args.x c.before.before.place_of.result f) ∙ sym c.before.has.ensures ∙ c.if3.true, and-false)
 
 together-requires : tie.Need-together-requires
 together-requires c κs = search rules
@@ -41,10 +41,10 @@ returns-4 : tie.Need-returns-4
 returns-4 c =
     λ b e f. ap (λ (n : ℕ). leb n most_pairs) c.together.ensures
     ∙ rw (
-      ← (place_in b c.before.before.before.before.before.before.before.before.args.n.0 e c.before.before.before.place_of.ensures),
+      ← (place_in b c.before.before.before.before.before.before.before.before.args.n e c.before.before.before.place_of.ensures),
       sym c.before.before.before.before.before.before.before.is-sound.ensures ∙ not-false _ c.before.before.before.before.before.before.if1.false,
       sym c.before.before.before.before.before.is-sound2.ensures ∙ not-false _ c.before.before.before.before.if2.false,
-      sym (set-member places c.before.before.before.before.before.before.before.before.args.x c.before.before.before.place_of.result.0 f) ∙ sym c.before.before.has.ensures ∙ c.before.if3.false,
+      sym (set-member places c.before.before.before.before.before.before.before.before.args.x c.before.before.before.place_of.result f) ∙ sym c.before.before.has.ensures ∙ c.before.if3.false,
     )
 
 pub sound-taken-spec : {M : Type 1} → statement M

@@ -6,7 +6,7 @@ use borrow.Author.Tests.{eq-eqb, ne_eqb, not-true, not-false}
 use Rattle.polyvalues.proofs.Known.{Held}
 use Rattle.book.specs.Book.{no_item}
 use Rattle.book.specs.SoundTest.{same_item}
-use Rattle.book.proofs.Ties.Sound.{nothing-same}
+use Rattle.book.proofs.Testing.{nothing-same}
 use Rattle.book.proofs.item_sound.zero_row.Statement.{statement}
 use Rattle.book.proofs.item_sound.zero_row.Tie as tie
 

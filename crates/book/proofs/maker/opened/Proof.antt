@@ -4,7 +4,7 @@ use mathlib.Core.Path.{◌∙◌, sym}
 use borrow.Author.Tests.{not-true, not-false}
 use Rattle.conditions.specs.Places.{places}
 use Rattle.book.proofs.Laws.Openings.{too_many_rows}
-use Rattle.book.proofs.Ties.Maker.{Held, openings-count, opens-none, opens_one}
+use Rattle.book.proofs.Making.{Held, openings-count, opens-none, opens_one}
 use Rattle.book.proofs.maker.opened.Statement.{statement}
 use Rattle.book.proofs.maker.opened.Tie as tie
 

@@ -3,9 +3,8 @@ use borrow.Author.Rules.{rules}
 use mathlib.Core.Path.{ap}
 use lib.ListN.{replicate}
 use Rattle.conditions.specs.Places.{places}
-use Rattle.book.specs.declared.types.Item.{Item}
-use Rattle.programs.specs.States.{most_items}
-use Rattle.book.specs.Book.{no_book, with_items}
+use Rattle.book.specs.declared.Item.{Item}
+use Rattle.book.specs.Book.{most_items, no_book, with_items}
 use Rattle.book.proofs.maker.zero_book.Statement.{statement}
 use Rattle.book.proofs.maker.zero_book.Tie as tie
 

@@ -15,10 +15,10 @@ use Rattle.book.proofs.place_sound.number_differs.Statement.{statement}
 use Rattle.book.proofs.place_sound.number_differs.Tie as tie
 
 abbrev invariant-loop : tie.invariant-loop
-invariant-loop n places end p₀ p = (p ≤ end) × (all p (λ p. not (eqb (get_or places p no_open).number.0 n.0)) ≡ true)
+invariant-loop q n places p₀ p = (p ≤ q) × (all p (λ p. not (eqb (get_or places p no_open).number.0 n.0)) ≡ true)
 
 abbrev decreases-loop : tie.decreases-loop
-decreases-loop n places end p₀ p = end - p
+decreases-loop q n places p₀ p = q - p
 
 loop-holds : tie.Need-loop-init invariant-loop decreases-loop
 unfolding all
@@ -43,7 +43,7 @@ loop-again : tie.Need-loop-preserved invariant-loop decreases-loop
 loop-again c = (omega arith, rw add-one (all_more _ _ c.before.before.before.before.before.loop.invariant.1 (ap not (ne_eqb _ _ c.if1.false))))
 
 returns-2 : tie.Need-returns-2 invariant-loop decreases-loop
-returns-2 c = let last : c.before.loop.p ≡ c.before.before.args.q.0 = omega (arith, c.before.loop.invariant.0) in sym (rw last at c.before.loop.invariant.1)
+returns-2 c = let last : c.before.loop.p ≡ c.before.before.args.q = omega (arith, c.before.loop.invariant.0) in sym (rw last at c.before.loop.invariant.1)
 
 pub number-differs-spec : {M : Type 1} → statement M
 number-differs-spec =

@@ -4,7 +4,7 @@ use mathlib.Core.Path.{sym, ap, ◌∙◌}
 use borrow.Author.Tests.{not-true, not-false}
 use mathlib.Core.Bool.{not}
 use Rattle.book.specs.SoundTest.{sound_at}
-use Rattle.book.proofs.Ties.Sound.{at-cases}
+use Rattle.book.proofs.Testing.{at-cases}
 use Rattle.book.proofs.place_sound.sound_at.Statement.{statement}
 use Rattle.book.proofs.place_sound.sound_at.Tie as tie
 

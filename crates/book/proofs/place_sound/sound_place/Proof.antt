@@ -34,7 +34,7 @@ has-requires c κs = search rules
 returns-3 : tie.Need-returns-3
 unfolding sound_place
 returns-3 c b o =
-    ap not (c.has.ensures ∙ o.depended c.before.before.before.before.before.before.args.q.0 c.before.before.before.before.before.before.requires.1)
+    ap not (c.has.ensures ∙ o.depended c.before.before.before.before.before.before.args.q c.before.before.before.before.before.before.requires.1)
     ∙ rw (o.places, eq-eqb _ _ c.before.before.before.if1.false, sym c.before.before.zero-open.ensures ∙ not-false _ c.before.if2.false)
 
 pub sound-place-spec : {M : Type 1} → statement M

@@ -9,7 +9,7 @@ use Rattle.conditions.proofs.Laws.Below.{all_more, all-fails}
 use borrow.Author.Rules.{rules}
 use borrow.Author.Tests.{not-true, not-false}
 use Rattle.conditions.specs.Places.{places as width}
-use Rattle.book.specs.declared.types.Book.{Book}
+use Rattle.book.specs.declared.Book.{Book}
 use Rattle.book.specs.SoundTest.{sound_place}
 use Rattle.book.specs.Tables.{TablesOf}
 use Rattle.book.proofs.place_sound.sound_places.Statement.{statement}

@@ -40,15 +40,15 @@ use denote.Triple.Walked.{says, Stays, gave_ref, stay_dropped, walk_of, Goes-gav
 use Rattle.conditions.specs.declared.place.TransactionNumber.{TransactionNumber}
 use Rattle.conditions.specs.contracts.place.TransactionNumber as N
 use Rattle.conditions.proofs.place.TransactionNumber.TheLaws as N'
-use Rattle.book.specs.declared.types.Record.{Record}
+use Rattle.book.specs.declared.Record.{Record}
 use Rattle.book.specs.Book.{no_record}
 use Rattle.book.specs.Records.{busy_on, give_up_record, hear_record}
-use Rattle.book.proofs.Ties.Records.{mach-number, mach, lent, to, leaves, Leaves}
-use Rattle.book.specs.contracts.types.Record as T
-use Rattle.book.proofs.types.Record.TheLaws as T'
-use Rattle.book.specs.contracts.types.Record.busy_on as busy-on
-use Rattle.book.proofs.types.Record.busy_on.Symbol as busy-on-symbol
-use Rattle.book.proofs.types.Record.busy_on.Met as busy-on-met
+use Rattle.book.proofs.Lent.{mach-number, mach, lent, to, leaves, Leaves}
+use Rattle.book.specs.contracts.Record as T
+use Rattle.book.proofs.Record.TheLaws as T'
+use Rattle.book.specs.contracts.records.busy_on as busy-on
+use Rattle.book.proofs.records.busy_on.Symbol as busy-on-symbol
+use Rattle.book.proofs.records.busy_on.Met as busy-on-met
 use Rattle.book.proofs.records.rest.Symbol as rest-symbol
 use Rattle.book.proofs.records.rest.Met as rest-met
 use Rattle.book.specs.contracts.records.hear as f
@@ -155,5 +155,5 @@ hear-spec 𝓤 𝓛 𝓜 𝓡 =
     let 𝓣 = tables_of 𝓤 𝓛.H 𝓜 (tables 𝓤 𝓛.H 𝓜 𝓡 code.env) in
     entered 𝓤 𝓛.H (triple_of 𝓛 f.signature (f.spec 𝓛 𝓜.mem 𝓡.run)) 𝓣.C 𝓣.Λ name code.function (code.unfolded 𝓤 𝓛.H 𝓜 𝓡)
     (meets 𝓛 𝓜.mem 𝓡.run 𝓣
-    (cited 𝓤 𝓛.H (Busy 𝓛 𝓜.mem 𝓡.run) 𝓜 𝓡 code.env busy-on-symbol.name busy-on-symbol.routine code.calls-book::types::Record::busy-on (busy-on-met.met 𝓤 𝓛 𝓜 𝓡))
+    (cited 𝓤 𝓛.H (Busy 𝓛 𝓜.mem 𝓡.run) 𝓜 𝓡 code.env busy-on-symbol.name busy-on-symbol.routine code.calls-book::records::busy-on (busy-on-met.met 𝓤 𝓛 𝓜 𝓡))
     (cited 𝓤 𝓛.H (Leaves 𝓛 give_up_record) 𝓜 𝓡 code.env rest-symbol.name rest-symbol.routine code.calls-book::records::rest (rest-met.met 𝓤 𝓛 𝓜 𝓡)))

@@ -13,11 +13,11 @@ use types.Part.{whole, sub, store_in}
 use denote.Laws.{Is}
 use denote.Struct.Laws as LL
 use denote.Triple.Table.{entered}
-use Rattle.book.specs.declared.types.Record.{Record}
+use Rattle.book.specs.declared.Record.{Record}
 use Rattle.book.specs.Records.{give_up_record}
-use Rattle.book.proofs.Ties.Records.{mach, Leaves, Writes, writes-it}
-use Rattle.book.specs.contracts.types.Record as T
-use Rattle.book.proofs.types.Record.TheLaws as T'
+use Rattle.book.proofs.Lent.{mach, Leaves, Writes, writes-it}
+use Rattle.book.specs.contracts.Record as T
+use Rattle.book.proofs.Record.TheLaws as T'
 use Rattle.book.specs.contracts.records.rest.Key.{name}
 use Rattle.book.proofs.records.rest.Statement.{statement}
 use Rattle.book.proofs.records.rest.Code as code

@@ -11,11 +11,11 @@ use types.Part.{whole, sub, store_in}
 use denote.Laws.{Is}
 use denote.Struct.Laws as LL
 use denote.Triple.Table.{entered}
-use Rattle.book.specs.declared.types.Record.{Record}
+use Rattle.book.specs.declared.Record.{Record}
 use Rattle.book.specs.Records.{ready_record}
-use Rattle.book.proofs.Ties.Records.{mach, Leaves, Writes, writes-it}
-use Rattle.book.specs.contracts.types.Record as T
-use Rattle.book.proofs.types.Record.TheLaws as T'
+use Rattle.book.proofs.Lent.{mach, Leaves, Writes, writes-it}
+use Rattle.book.specs.contracts.Record as T
+use Rattle.book.proofs.Record.TheLaws as T'
 use Rattle.book.specs.contracts.records.wait.Key.{name}
 use Rattle.book.proofs.records.wait.Statement.{statement}
 use Rattle.book.proofs.records.wait.Code as code

@@ -1,16 +1,9 @@
--- Bit d is set, or there is none.
+-- Bit d is set.
 use borrow.Author.Rules.{rules}
-use mathlib.Core.Path.{sym}
 use native.Mathlib.Omega.{arith}
-use mathlib.Core.Bool.{true}
-use Rattle.conditions.proofs.Laws.Places.{place-past}
-use Rattle.book.specs.Book.{most_districts}
-use Rattle.book.proofs.Ties.Sets.{including-is}
+use Rattle.book.proofs.Districts.{including-is}
 use Rattle.book.proofs.sets.including.Statement.{statement}
 use Rattle.book.proofs.sets.including.Tie as tie
-
-returns : tie.Need-returns
-returns c = sym (place-past most_districts c.before.args.set c.before.args.d true (omega arith) c.if1.true)
 
 cast-result : tie.Need-overflow-cast-result
 cast-result c = search rules
@@ -18,8 +11,8 @@ cast-result c = search rules
 shl-result : tie.Need-overflow-shl-result
 shl-result c = search rules
 
-returns-2 : tie.Need-returns-2
-returns-2 c = including-is c.before.args.set c.before.args.d (omega arith) c.if1.false
+returns : tie.Need-returns
+returns c = including-is c.args.set c.args.d (omega arith) c.requires
 
 pub including-spec : {M : Type 1} → statement M
-including-spec = tie.close (tie.spec returns cast-result shl-result returns-2)
+including-spec = tie.close (tie.spec cast-result shl-result returns)

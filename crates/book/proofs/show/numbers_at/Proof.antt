@@ -6,9 +6,9 @@ use native.Mathlib.Numerals.{add-one}
 use native.Mathlib.Omega.{arith}
 use lib.ListN.{length}
 use Rattle.conditions.specs.Places.{places as width}
-use Rattle.book.specs.declared.types.Open.{Open}
+use Rattle.book.specs.declared.Open.{Open}
 use Rattle.book.specs.Book.{no_open}
-use Rattle.programs.proofs.Laws.Filling.{filled_upto, filled_more, filled-all}
+use Rattle.book.proofs.Filling.{filled_upto, filled_more, filled-all}
 use Rattle.book.proofs.show.numbers_at.Statement.{statement}
 use Rattle.book.proofs.show.numbers_at.Tie as tie
 

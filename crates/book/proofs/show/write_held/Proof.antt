@@ -3,7 +3,7 @@ use mathlib.Core.Path.{sym, ap, ◌∙◌}
 use Rattle.conditions.specs.Places.{places}
 use Rattle.conditions.specs.Written.{answer, written}
 use Rattle.book.specs.Show.{line_of}
-use Rattle.book.proofs.Ties.Show.{line-is, was-written, was-short}
+use Rattle.book.proofs.Showing.{line-is, was-written, was-short}
 use borrow.Author.Rules.{rules}
 use Rattle.book.proofs.show.write_held.Statement.{statement}
 use Rattle.book.proofs.show.write_held.Tie as tie

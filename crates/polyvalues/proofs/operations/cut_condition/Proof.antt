@@ -13,12 +13,14 @@ enum-known-how c = search rules
 reduce-requires : tie.Need-reduce-requires
 reduce-requires c κs = search rules
 
+-- /work/main/target/rlib/conditions.rlib/interface/lang/src/condition.rt:6:31
 enum_told : tie.Need-enum-told
 enum_told c = search rules
 
 select-requires : tie.Need-select-requires
 select-requires c κs = search rules
 
+-- /work/main/target/rlib/conditions.rlib/interface/lang/src/condition.rt:6:31
 enum-told-2 : tie.Need-enum-told-2
 enum-told-2 c = search rules
 

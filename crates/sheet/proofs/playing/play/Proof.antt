@@ -1,7 +1,7 @@
 -- Each event has its call.
 use mathlib.Core.Path.{sym, ap, ◌∙◌}
 use Rattle.conditions.specs.Places.{places}
-use Rattle.begin.specs.Begin.{begin}
+use Rattle.book.specs.Begin.{begin}
 use Rattle.sheet.specs.Play.{of_begun, of_done, event_result}
 use Rattle.sheet.proofs.Plays.{too_short, was-played}
 use borrow.Author.Rules.{rules}

@@ -4,8 +4,7 @@ use Rattle.conditions.proofs.Putting.{put_then, put-length}
 use Rattle.conditions.specs.Places.{places}
 use Rattle.sheet.proofs.Writing.{put-over, head-shorter, show-fits}
 use Rattle.sheet.proofs.Lent.{answer-lent, lent-refused, end-few, lent-put}
-use Rattle.sheet.proofs.Plays.{show-accepted, show-refused}
-use Rattle.book.proofs.Laws.Answers.{number-refused, number-accepted}
+use Rattle.sheet.proofs.Plays.{number-refused, number-accepted, show-accepted, show-refused}
 use borrow.Author.Rules.{rules}
 use Rattle.sheet.proofs.playing.shown.Statement.{statement}
 use Rattle.sheet.proofs.playing.shown.Tie as tie

@@ -1,6 +1,6 @@
 -- The count, and then the events.
 use mathlib.Core.List.{List, []}
-use Rattle.sheet.specs.declared.kinds.Event.{Event}
+use Rattle.sheet.specs.declared.events.Event.{Event}
 use Rattle.sheet.specs.Sections.{events}
 use Rattle.sheet.proofs.Reading.{went-wrong, went-right, told-as}
 use borrow.Author.Rules.{rules}

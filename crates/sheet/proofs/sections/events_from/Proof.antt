@@ -6,7 +6,7 @@ use Prim.Native.Nat.{◌≤◌, ◌-◌}
 use native.Mathlib.Omega.{arith}
 use lib.ListN.{drop}
 use borrow.Author.Rules.{rules}
-use Rattle.sheet.specs.declared.kinds.Event.{Event}
+use Rattle.sheet.specs.declared.events.Event.{Event}
 use Rattle.sheet.specs.Readers.{repeat, one_more}
 use Rattle.sheet.specs.Events.{event}
 use Rattle.sheet.proofs.Repeating.{one_more-right, one_more-wrong, repeat-all, repeat-done, repeat-wrong, repeat-more}

@@ -6,7 +6,7 @@ use Prim.Native.Nat.{◌≤◌, ◌-◌}
 use native.Mathlib.Omega.{arith}
 use lib.ListN.{length, drop}
 use borrow.Author.Rules.{rules}
-use Rattle.book.specs.declared.maker.Opening.{Opening}
+use Rattle.book.specs.declared.Opening.{Opening}
 use Rattle.sheet.specs.Readers.{right, repeat, one_more}
 use Rattle.sheet.specs.Sections.{item}
 use Rattle.sheet.proofs.Repeating.{in_rows, row_more, rows-read, one_more-right, one_more-wrong, repeat-all, repeat-done, repeat-wrong, repeat-more}

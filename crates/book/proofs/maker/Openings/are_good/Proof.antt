@@ -7,7 +7,7 @@ use native.Mathlib.Omega.{arith}
 use lib.ListN.{drop, drop_of_length-le}
 use Rattle.book.specs.Open.{good_items}
 use Rattle.book.specs.Openings.{openings_of}
-use Rattle.book.proofs.Ties.Maker.{Held, openings-count, bad-found, good-later}
+use Rattle.book.proofs.Making.{Held, openings-count, bad-found, good-later}
 use Rattle.book.proofs.maker.Openings.are_good.Statement.{statement}
 use Rattle.book.proofs.maker.Openings.are_good.Tie as tie
 

@@ -3,7 +3,7 @@ use borrow.Author.Rules.{rules}
 use mathlib.Core.Path.{sym, ◌∙◌}
 use borrow.Author.Tests.{not-true, not-false}
 use Rattle.book.specs.Open.{good_opening}
-use Rattle.book.proofs.Ties.Maker.{Held, openings-count}
+use Rattle.book.proofs.Making.{Held, openings-count}
 use Rattle.book.proofs.maker.Openings.open_a_book.Statement.{statement}
 use Rattle.book.proofs.maker.Openings.open_a_book.Tie as tie
 

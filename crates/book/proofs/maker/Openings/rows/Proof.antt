@@ -6,13 +6,12 @@ use native.Mathlib.Numerals.{add-one}
 use native.Mathlib.Omega.{arith}
 use lib.ListN.{replicate}
 use Rattle.conditions.specs.Places.{places}
-use Rattle.book.specs.declared.types.Item.{Item}
-use Rattle.programs.specs.States.{most_items}
-use Rattle.book.specs.Book.{no_item}
+use Rattle.book.specs.declared.Item.{Item}
+use Rattle.book.specs.Book.{most_items, no_item}
 use Rattle.book.specs.Open.{no_opening, opened_item}
 use Rattle.book.specs.Openings.{openings_of}
-use Rattle.programs.proofs.Laws.Filling.{filled_upto, filled_more}
-use Rattle.book.proofs.Ties.Maker.{Held, items-long}
+use Rattle.book.proofs.Filling.{filled_upto, filled_more}
+use Rattle.book.proofs.Making.{Held, items-long}
 use Rattle.book.proofs.maker.Openings.rows.Statement.{statement}
 use Rattle.book.proofs.maker.Openings.rows.Tie as tie
 

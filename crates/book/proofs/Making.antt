@@ -1,0 +1,61 @@
+-- Openings in rows: what holding them tells, the turns of the loop over them, and the book that is made of them.
+use mathlib.Core.Path.{◌≡◌, sym, ap, ◌∙◌}
+use mathlib.Core.Bool.{Bool, true, false, not, ◌&&◌}
+use mathlib.Core.List.{List, ◌++◌, map}
+use Prim.Native.Nat.{ℕ, suc, ◌-◌, ◌≤◌, ◌<◌}
+use native.Mathlib.Omega.{arith}
+use denote.Shadow.{shadow}
+use lib.ListN.{length, get_or, drop, replicate, length-map, length-take}
+use mir.Val.{Val}
+use borrow.Author.Tests.{not-false, not-true}
+use Rattle.conditions.specs.Places.{places}
+use Rattle.conditions.proofs.Laws.Lists.{drop-take}
+use Rattle.book.specs.declared.Book.{Book}
+use Rattle.book.specs.declared.Item.{Item}
+use Rattle.book.specs.declared.maker.Openings.{Openings}
+use Rattle.book.specs.Book.{most_items, no_item, no_book}
+use Rattle.book.specs.Open.{no_opening, good_item, good_items, good_opening, opened_item, opened_book, opened}
+use Rattle.book.specs.Openings.{openings_of, opened_rows}
+use Rattle.book.proofs.Laws.Openings.{rows-opened}
+use Rattle.book.specs.contracts.Opening as TOpening
+use Rattle.book.specs.contracts.maker.Openings as TOpenings
+
+-- t is a value that code holds
+pub record Held (t : Openings) : Type 0 where
+  pub values : List Val
+  pub own : shadow ((TOpenings.the_field).row.own_val ((TOpenings.the_field).into t) values)
+
+pub items-long : {t : Openings} → Held t → length t.items ≡ most_items
+items-long {t} h = sym (length-map t.items (TOpening.the_field).into) ∙ h.own.1.1.1.0.1.0.1
+
+pub openings-count : {t : Openings} → Held t → t.count ≤ most_items → length (openings_of t) ≡ t.count
+unfolding openings_of
+openings-count {t} h few = omega (arith, length-take t.count t.items, items-long h)
+
+-- item i is not good, or the items after it decide
+module _ (districts : ℕ) (t : Openings) (i : ℕ) (h : i < length (openings_of t)) {r target : Bool}
+    (left : good_items districts (drop i (openings_of t)) ≡ target) (e : r ≡ good_item districts (get_or t.items i no_opening)) where
+  here : (r && good_items districts (drop (suc i) (openings_of t))) ≡ target
+  unfolding openings_of
+  here = ap (λ (b : Bool). b && good_items districts (drop (suc i) (openings_of t))) e ∙ rw (drop-take t.count t.items i no_opening h) at left
+
+  pub bad-found : not r ≡ true → false ≡ target
+  bad-found k = sym (ap (λ (b : Bool). b && good_items districts (drop (suc i) (openings_of t))) (not-true r k)) ∙ here
+
+  pub good-later : not r ≡ false → good_items districts (drop (suc i) (openings_of t)) ≡ target
+  good-later k = sym (ap (λ (b : Bool). b && good_items districts (drop (suc i) (openings_of t))) (not-false r k)) ∙ here
+
+-- ---- the book, where they are not too many
+
+module _ (districts : ℕ) (t : Openings) (few : t.count ≤ most_items) {b : Book} (e : b ≡ no_book places) where
+  pub opens-none : good_opening districts (openings_of t) ≡ false → b ≡ opened_rows places districts t
+  unfolding opened
+  opens-none bad = rw (rows-opened places districts t few, bad) e
+
+  pub opens_one : {rows : List Item} → length (openings_of t) ≡ t.count → good_opening districts (openings_of t) ≡ true
+      → rows ≡ map (opened_item places) (openings_of t) ++ replicate (most_items - t.count) no_item
+      → record { last = b.last; districts = districts; records = b.records; count = t.count; items = rows; «open» = b.«open» } ≡ opened_rows places districts t
+  unfolding opened opened_book no_book
+  opens_one count good are =
+      rw (rows-opened places districts t few, good, count)
+      (λ k. record { last = (e k).last; districts = districts; records = (e k).records; count = t.count; items = are k; «open» = (e k).«open» })

@@ -1,0 +1,74 @@
+-- Operands as the machine keeps them, and the items that steps name.
+use mathlib.Core.Path.{◌≡◌, refl, ap, ap₂}
+use mathlib.Core.Bool.{Bool, true, false, not, ◌||◌, true≢false}
+use mathlib.Core.List.{List, [], ◌∷◌}
+use Prim.Native.Nat.{ℕ, zero, suc, ◌≤◌, ◌<◌}
+use native.Mathlib.Omega.{arith}
+use lib.Dec.{ltb, T}
+use lib.IntN.{ℤ, pos, negsuc, nat_abs}
+use lib.ListN.{length, get_or}
+use lib.Signed.{lt_z, mag, non_neg}
+use mir.Facts.{to_z-of_z, Fits-nat_abs}
+use mir.Syntax.{w16, w64}
+use mir.Val.{Fits, SFits, of_z, to_z}
+use borrow.Author.Tests.{lt-ltb, ltb-true, not-false}
+use Rattle.conditions.proofs.Laws.Below.{or_left, or_right, by_cases}
+use Rattle.book.specs.declared.Step.{Step}
+use Rattle.book.specs.Programs.{is_copy, numbered, some_step}
+use Rattle.book.specs.Begin.{in_table, outside}
+use Rattle.book.specs.States.{no_step}
+use Rattle.book.proofs.Laws.Touched.{item-below}
+
+-- ---- operands
+
+-- a number of 16 bits is what its bits say
+pub back : (z : ℤ) → mag z < 32768 → to_z w16 (of_z w16 z) ≡ z
+back z h = to_z-of_z (record { sfits = h })
+
+-- one below zero numbers no item
+pub numbers-none : (z : ℤ) → lt_z z (pos 0) ≡ true → 0 ≡ numbered z
+numbers-none (pos n) e = absurd (omega (arith, ltb-true n 0 e))
+numbers-none (negsuc n) e = refl
+
+pub outside-table : (count : ℕ) (z : ℤ) → lt_z z (pos 0) ≡ true → false ≡ in_table count z
+outside-table count (pos n) e = absurd (omega (arith, ltb-true n 0 e))
+outside-table count (negsuc n) e = refl
+
+-- another numbers one
+pub numbers-one : (z : ℤ) → lt_z z (pos 0) ≡ false → nat_abs z ≡ numbered z
+numbers-one (pos n) e = refl
+numbers-one (negsuc n) e = absurd (true≢false e)
+
+pub numbers-in : (count : ℕ) (z : ℤ) → lt_z z (pos 0) ≡ false → ltb (numbered z) count ≡ in_table count z
+numbers-in count (pos n) e = refl
+numbers-in count (negsuc n) e = absurd (true≢false e)
+
+pub not-below-zero : (z : ℤ) → SFits w16 z → lt_z z (pos 0) ≡ false → T (non_neg z) × Fits w64 (nat_abs z)
+not-below-zero (pos n) f e = (tt, Fits-nat_abs tt f)
+not-below-zero (negsuc n) f e = absurd (true≢false e)
+
+-- ---- items that a step names
+
+in-table-more : (count more : ℕ) (z : ℤ) → count ≤ more → in_table count z ≡ true → in_table more z ≡ true
+in-table-more count more (pos n) h e = lt-ltb n more (omega (arith, ltb-true n count e))
+in-table-more count more (negsuc n) h e = e
+
+-- what is in a table is in a longer one
+module _ (count more : ℕ) (h : count ≤ more) where
+  step-inside-more : (x : Step) → outside count x ≡ false → outside more x ≡ false
+  unfolding outside
+  step-inside-more x e =
+      rw (lt-ltb x.item more (omega (arith, item-below count x e))) (by_cases (is_copy x)
+      (λ q. rw q (ap not (in-table-more count more x.operand h (not-false _ (rw q at (or_right (not (ltb x.item count)) _ e))))))
+      (λ q. rw q))
+
+  pub inside-more : (xs : List Step) → some_step (outside count) xs ≡ false → some_step (outside more) xs ≡ false
+  inside-more [] e = refl
+  inside-more (x ∷ xs) e = ap₂ ◌||◌ (step-inside-more x (or_left (outside count x) _ e)) (inside-more xs (or_right (outside count x) _ e))
+
+-- ---- a test of each step
+
+pub some-none : (f : Step → Bool) (xs : List Step) (i : ℕ) → some_step f xs ≡ false → i < length xs → f (get_or xs i no_step) ≡ false
+some-none f [] i e h = absurd (omega arith)
+some-none f (x ∷ xs) zero e h = or_left (f x) _ e
+some-none f (x ∷ xs) (suc i) e h = some-none f xs i (or_right (f x) _ e) (omega arith)

@@ -1,0 +1,88 @@
+-- Programs in rows: what holding one tells of it, how bytes are read into one, and its steps in use.
+use mathlib.Core.Path.{◌≡◌, sym, ap, ap₂, ◌∙◌}
+use mathlib.Core.Bool.{false, not, ◌||◌}
+use mathlib.Core.List.{List, ◌∷◌, ◌++◌, map-id}
+use Prim.Native.Nat.{ℕ, suc, ◌+◌, ◌-◌, ◌*◌, ◌%◌, ◌≤◌, ◌<◌, min}
+use native.Mathlib.Nat.{add_comm}
+use denote.Shadow.{shadow}
+use lib.Dec.{eqb}
+use lib.IntN.{ℤ}
+use lib.ListN.{length, get_or, take, drop, replicate, length-map, length-take}
+use lib.Seq.{take-length, take-append_seam}
+use mir.Val.{Val}
+use borrow.Author.Tests.{ltb-false}
+use Rattle.conditions.proofs.Laws.Below.{or_left, or_right}
+use Rattle.conditions.proofs.Laws.Lists.{take_row, drop-take}
+use Rattle.polyvalues.specs.Values.{of_bytes}
+use Rattle.book.specs.declared.Step.{Step}
+use Rattle.book.specs.declared.program.Program.{Program}
+use Rattle.book.specs.Book.{most_items}
+use Rattle.book.specs.Programs.{steps, some_step}
+use Rattle.book.specs.Begin.{most_steps, bad_length, bad_program, outside}
+use Rattle.book.specs.States.{no_step, steps_of, program_of}
+use Rattle.book.proofs.Laws.Steps.{get_d-steps}
+use Rattle.book.proofs.Filling.{filled_upto}
+use Rattle.book.specs.contracts.Step as TStep
+use Rattle.book.specs.contracts.program.Program as TProgram
+use Rattle.book.proofs.Naming.{some-none}
+
+-- p is a value that code holds
+pub record Held (p : Program) : Type 0 where
+  pub values : List Val
+  pub own : shadow ((TProgram.the_field).row.own_val ((TProgram.the_field).into p) values)
+
+pub steps-long : {p : Program} → Held p → length p.steps ≡ most_steps
+steps-long {p} h = sym (length-map p.steps (TStep.the_field).into) ∙ h.own.1.1.1.0.1.0.1
+
+-- ---- a program as bytes
+
+pub step-read : (bytes : List ℕ) (j : ℕ) → j < length (steps bytes) → {z : ℤ} → z ≡ of_bytes (get_or bytes (4 * j + 2) 0) (get_or bytes (4 * j + 3) 0)
+    → record { kind = get_or bytes (4 * j) 0; item = get_or bytes (4 * j + 1) 0; operand = z } ≡ get_or (steps bytes) j no_step
+step-read bytes j h e =
+    let item = ap (λ (i : ℕ). get_or bytes i 0) (add_comm (4 * j) 1) in
+    let high = ap (λ (i : ℕ). get_or bytes i 0) (add_comm (4 * j) 2) in
+    let low = ap (λ (i : ℕ). get_or bytes i 0) (add_comm (4 * j) 3) in
+    let operand = e ∙ ap₂ of_bytes high low in
+    (λ k. record { kind = get_or bytes (4 * j) 0; item = item k; operand = operand k }) ∙ sym (get_d-steps bytes j h)
+
+pub few-steps : (bytes : List ℕ) → bad_length bytes ≡ false → length (steps bytes) ≤ most_steps
+few-steps bytes e = ltb-false most_steps (length (steps bytes)) (or_right (not (eqb (length bytes % 4) 0) || eqb (length (steps bytes)) 0) _ e)
+
+-- a program that is not bad has few steps
+pub good-count : (bytes : List ℕ) → bad_program bytes ≡ false → length (steps bytes) ≤ most_steps
+unfolding bad_program
+good-count bytes good = few-steps bytes (or_left (bad_length bytes) _ good)
+
+-- ---- a program that is read: the first i steps are there
+
+abbrev pub read_upto : ℕ → List Step → List Step
+read_upto i xs = filled_upto (λ (x : Step). x) no_step most_steps i xs
+
+pub read_all : (xs : List Step) (i n : ℕ) {rows : List Step} → i ≡ length xs → n ≡ length xs → rows ≡ read_upto i xs → record { count = n; steps = rows } ≡ program_of xs
+unfolding program_of
+read_all xs i n e f is =
+    let all : read_upto i xs ≡ xs ++ replicate (most_steps - length xs) no_step = ap (λ (m : ℕ). read_upto m xs) e ∙ ap (λ (l : List Step). l ++ replicate (most_steps - length xs) no_step) (map-id (take (length xs) xs) ∙ take-length xs) in
+    let rows_are = is ∙ all in
+    λ k. record { count = f k; steps = rows_are k }
+
+pub steps-read : (xs : List Step) → steps_of (program_of xs) ≡ xs
+unfolding steps_of program_of
+steps-read xs = take-append_seam xs (replicate (most_steps - length xs) no_step)
+
+-- ---- the steps in use
+
+pub steps-count : (p : Program) → length (steps_of p) ≡ min p.count (length p.steps)
+unfolding steps_of
+steps-count p = length-take p.count p.steps
+
+step_row : (p : Program) (i : ℕ) → i < length (steps_of p) → get_or (steps_of p) i no_step ≡ get_or p.steps i no_step
+unfolding steps_of
+step_row p i h = take_row p.count p.steps i no_step h
+
+-- every step in use is inside the table
+pub inside-row : (p : Program) (i : ℕ) → some_step (outside most_items) (steps_of p) ≡ false → i < length (steps_of p) → outside most_items (get_or p.steps i no_step) ≡ false
+inside-row p i e h = rw (sym (step_row p i h)) (some-none (outside most_items) (steps_of p) i e h)
+
+pub steps-more : (p : Program) (i : ℕ) → i < length (steps_of p) → drop i (steps_of p) ≡ get_or p.steps i no_step ∷ drop (suc i) (steps_of p)
+unfolding steps_of
+steps-more p i h = drop-take p.count p.steps i no_step h

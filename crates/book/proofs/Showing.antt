@@ -1,0 +1,70 @@
+-- Show: the numbers of the transactions at the places, and what each answer says of the buffer.
+use mathlib.Core.Path.{◌≡◌, ap, ◌∙◌, fun_ext}
+use mathlib.Core.Bool.{true, false}
+use mathlib.Core.List.{List, map}
+use Prim.Native.Nat.{ℕ, ◌+◌, ◌≤◌, ◌<◌}
+use native.Mathlib.Omega.{arith}
+use lib.ListN.{length, get_or-map}
+use borrow.Author.Tests.{lt-ltb, le-ltb}
+use Rattle.conditions.specs.declared.place.TransactionNumber.{TransactionNumber}
+use Rattle.conditions.specs.declared.text.Written.TheVariants.{To, NoRoom}
+use Rattle.conditions.specs.Places.{places as width}
+use Rattle.conditions.specs.Text.{number_at}
+use Rattle.conditions.specs.Written.{room, answer, written}
+use Rattle.conditions.proofs.Laws.Below.{by_cases}
+use Rattle.polyvalues.specs.declared.polyvalue.Polyvalue.{Polyvalue}
+use Rattle.polyvalues.specs.Text.{line_text}
+use Rattle.polyvalues.specs.Polyvalues.{in_use}
+use Rattle.book.specs.declared.Answer.TheVariants.{Accepted, NoItem, Unsound, ShortBuffer}
+use Rattle.book.specs.declared.Book.{Book}
+use Rattle.book.specs.declared.Open.{Open}
+use Rattle.book.specs.declared.Shown.{Shown}
+use Rattle.book.specs.Answers.{first_of}
+use Rattle.book.specs.Book.{no_open}
+use Rattle.book.specs.SoundTest.{sound}
+use Rattle.book.specs.Show.{tag_number, line_of, held_line, line_shown, show_answer, shown, show}
+
+-- ---- the line
+
+pub line-is : (p : Polyvalue) (places : List Open) {numbers : List TransactionNumber} → numbers ≡ map (λ o. o.number) places
+    → line_text width (number_at numbers) (in_use p) ≡ line_of width p places
+line-is p places e =
+    let tags : number_at (map (λ (o : Open). o.number) places) ≡ tag_number places =
+    fun_ext (λ q. ap (λ (n : TransactionNumber). n.0) (get_or-map (λ (o : Open). o.number) places q no_open)) in
+    ap (λ (n : ℕ → ℕ). line_text width n (in_use p)) (ap number_at e ∙ tags)
+
+-- it was written, or there was too little room
+pub was-written : (l t : List ℕ) {end : ℕ} → To end ≡ answer l 0 t → record { answer = Accepted; end = end } ≡ line_shown l t
+unfolding answer
+was-written l t {end} e =
+    by_cases (room l 0 t)
+    (λ k. let to : To end ≡ To (0 + length t) = rw k at e in let same : end ≡ 0 + length t = cc in let plain : end ≡ length t = omega arith in rw k (λ j. record { answer = Accepted; end = plain j }))
+    (λ k. let none : To end ≡ NoRoom = rw k at e in let z : ◌≡◌ {A = ℕ} 0 1 = cc in absurd (omega arith))
+
+pub was-short : (l t : List ℕ) → NoRoom ≡ answer l 0 t → record { answer = ShortBuffer; end = 0 } ≡ line_shown l t
+unfolding answer
+was-short l t e =
+    by_cases (room l 0 t)
+    (λ k. let some : NoRoom ≡ To _ = rw k at e in let z : ◌≡◌ {A = ℕ} 0 1 = cc in absurd (omega arith))
+    (λ k. rw k)
+
+-- ---- the answers
+
+module _ (b : Book) (i : ℕ) (l : List ℕ) where
+  pub unsound-shown : sound width b ≡ false → (record { answer = Unsound; end = 0 } ≡ show width b i l) × (l ≡ shown width b i l)
+  unfolding show show_answer shown first_of
+  unsound-shown s = (rw s, rw s)
+
+  module _ (s : sound width b ≡ true) where
+    pub none-shown : b.count ≤ i → (record { answer = NoItem; end = 0 } ≡ show width b i l) × (l ≡ shown width b i l)
+    unfolding show show_answer shown first_of
+    none-shown h = let past = le-ltb i b.count h in (rw (s, past), rw (s, past))
+
+    pub item-shown : {r : Shown} {m : List ℕ} → i < b.count → r ≡ line_shown l (held_line width b i) → m ≡ written l 0 (held_line width b i)
+        → (r ≡ show width b i l) × (m ≡ shown width b i l)
+    unfolding show show_answer shown first_of written
+    item-shown h e f =
+        let there = lt-ltb i b.count h in
+        by_cases (room l 0 (held_line width b i))
+        (λ k. (rw (s, there, k) (rw k at e), rw (s, there, k) (rw k at f)))
+        (λ k. (rw (s, there, k) (rw k at e), rw (s, there, k) (rw k at f)))

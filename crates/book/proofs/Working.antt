@@ -1,0 +1,278 @@
+-- Begin's work as the code does it: alternative by alternative, item by item.
+use mathlib.Core.Path.{◌≡◌, refl, sym, ap, ap₂, ◌∙◌}
+use mathlib.Core.Bool.{Bool, true, false, not, ◌&&◌, ◌||◌, true≢false, or-true, or-false}
+use mathlib.Core.List.{List, []}
+use Prim.Native.Nat.{ℕ, suc, ◌^◌, ◌≤◌, ◌<◌}
+use native.Mathlib.Omega.{arith}
+use lib.Dec.{ltb}
+use lib.IntN.{ℤ}
+use lib.ListN.{length, get_or, set, length-set, get_or-replicate}
+use lib.Seq.{get_or-set_same, get_or-set_other}
+use borrow.Author.Count.{below_more}
+use borrow.Author.Tests.{eq-eqb, ne_eqb, lt-ltb, ltb-true, ltb-false, not-false}
+use Rattle.conditions.specs.declared.condition.Condition.{Condition}
+use Rattle.conditions.specs.Below.{all, first}
+use Rattle.conditions.specs.Sets.{member}
+use Rattle.conditions.specs.Places.{places}
+use Rattle.conditions.specs.Conditions.{number, full, union, intersection, complement, lowest}
+use Rattle.conditions.proofs.Laws.Below.{by_cases, all-at, all_more, all-fails, all-not, none_any, any_of, first-le, first_passes, before-first}
+use Rattle.conditions.proofs.Laws.Sets.{member-none, same-members}
+use Rattle.conditions.proofs.Laws.Conditions.{member-full, member_union, member-complement, full-lt, union-lt}
+use Rattle.polyvalues.specs.declared.polyvalue.Pair.{Pair}
+use Rattle.polyvalues.specs.declared.polyvalue.Polyvalue.{Polyvalue}
+use Rattle.polyvalues.specs.declared.polyvalue.Joined.{Joined}
+use Rattle.polyvalues.specs.Pairs.{assignments, applying}
+use Rattle.polyvalues.specs.Polyvalues.{most_pairs, in_use, packed, fitted}
+use Rattle.polyvalues.specs.Simplify.{join, canon_over, canon}
+use Rattle.polyvalues.specs.Operations.{together}
+use Rattle.polyvalues.proofs.Laws.Applying.{applying-value}
+use Rattle.polyvalues.proofs.Laws.Canon.{over_none, over-full}
+use Rattle.polyvalues.proofs.Laws.Packed.{in_use-packed, sound-well-formed}
+use Rattle.polyvalues.proofs.Laws.Room.{over-count}
+use Rattle.polyvalues.proofs.Inserting.{fits-yes, fits-no}
+use Rattle.book.specs.declared.Book.{Book}
+use Rattle.book.specs.declared.Step.{Step}
+use Rattle.book.specs.declared.state.State.{State}
+use Rattle.book.specs.declared.program.Ran.{Ran}
+use Rattle.book.specs.declared.alternatives.Alternative.{Alternative}
+use Rattle.book.specs.declared.alternatives.Spread.{Spread}
+use Rattle.book.specs.declared.alternatives.Worked.{Worked}
+use Rattle.book.specs.Book.{most_items, void, item_at}
+use Rattle.book.specs.Programs.{takes, declined, run, touches, some_step}
+use Rattle.book.specs.SoundTest.{sound}
+use Rattle.book.specs.Begin.{outside, held_at, declines_at, results, too_many}
+use Rattle.book.specs.States.{state_of, state_rows, ran}
+use Rattle.book.specs.Alternatives.{block_below, block, some_declines, some_grants, StartsAs, joined_row, row_after, RowsAfter, Covers, nothing_worked, WorkedOut}
+use Rattle.book.proofs.Laws.Programs.{declined-reads, run-reads}
+use Rattle.book.proofs.Laws.Sound.{test-sound}
+use Rattle.book.proofs.Laws.Alternatives.{Chosen, InTable, block-own, join-block, declines-more, grants-more, grant-is}
+use Rattle.book.proofs.Laws.Touched.{touched-below}
+use Rattle.book.proofs.States.{state-row}
+use Rattle.book.proofs.Running.{ran-value}
+
+-- ---- an alternative, item by item
+
+-- the items below k have been looked at
+pub record Choosing (b : Book) (xs : List Step) (a k : ℕ) (t : Alternative) : Type 0 where
+  pub within : k ≤ b.count
+  pub condition : number t.condition ≡ block_below places b xs a k
+  pub starts : StartsAs b xs a k t.state
+
+module _ (b : Book) (xs : List Step) (a k : ℕ) (most : b.count ≤ most_items) (h : k < b.count) {t : Alternative} (now-at : Choosing b xs a k t) where
+  pub choosing-other : touches xs k ≡ false → Choosing b xs a (suc k) t
+  unfolding block_below
+  choosing-other e =
+      record {
+        within = h;
+        condition = rw e now-at.condition;
+        starts = λ i l f. below_more (λ i. touches xs i ≡ true → state_of t.state i ≡ held_at b a i) k now-at.starts (λ f. absurd (true≢false (sym f ∙ e))) i (omega arith) f;
+      }
+
+  pub choosing-touched : touches xs k ≡ true → {p : Pair} → p ≡ applying (in_use (item_at b k).held) a → {r : Alternative}
+      → (number r.condition ≡ intersection places (number t.condition) (assignments p)) × (r.state ≡ state_rows (takes (state_of t.state) k p.value))
+      → Choosing b xs a (suc k) r
+  unfolding block_below
+  choosing-touched e {p} q {r} new =
+      record {
+        within = h;
+        condition = rw e (new.0 ∙ ap₂ (intersection places) now-at.condition (ap assignments q));
+        starts = λ i l f. below_more (λ i. touches xs i ≡ true → state_of r.state i ≡ held_at b a i) k (λ i l f. row i (omega arith) ∙ rw (ne_eqb k i (λ z. omega arith)) (now-at.starts i l f))
+            (λ f. row k (omega arith) ∙ rw (eq-eqb k k refl) (ap (λ (x : Pair). x.value) q ∙ applying-value (in_use (item_at b k).held) a)) i (omega arith) f;
+      }
+    where
+      row : (i : ℕ) → i < most_items → state_of r.state i ≡ takes (state_of t.state) k p.value i
+      row i l = ap (λ (s : State). state_of s i) new.1 ∙ state-row (takes (state_of t.state) k p.value) i l
+
+-- ---- the results of a run, item by item
+
+-- those below k have been joined in
+pub record Joining (xs : List Step) (s : State) (c : ℕ) (new : List Polyvalue) (k : ℕ) (now : List Polyvalue) : Type 0 where
+  pub long : length now ≡ most_items
+  pub fits : all k (λ i. (row_after places xs s c new i).fits) ≡ true
+  pub done : RowsAfter places xs s c new k now
+  pub rest : (i : ℕ) → k ≤ i → get_or now i void ≡ get_or new i void
+
+module _ (xs : List Step) (s : State) (c : ℕ) (new : List Polyvalue) where
+  pub joining-start : length new ≡ most_items → Joining xs s c new 0 new
+  unfolding all
+  joining-start l = record { long = l; fits = refl; done = λ i h. absurd (omega arith); rest = λ i h. refl }
+
+  module _ (k : ℕ) (h : k < most_items) {now : List Polyvalue} (now-at : Joining xs s c new k now) {r : Joined} (e : r ≡ joined_row places (touches xs k) (state_of s k) c (get_or now k void)) where
+    row : r ≡ row_after places xs s c new k
+    row = e ∙ ap (joined_row places (touches xs k) (state_of s k) c) (now-at.rest k (omega arith))
+
+    pub joining-next : r.fits ≡ true → Joining xs s c new (suc k) (set now k r.polyvalue)
+    joining-next f =
+        record {
+          long = length-set now k r.polyvalue ∙ now-at.long;
+          fits = all_more k (λ i. (row_after places xs s c new i).fits) now-at.fits (sym (ap (λ (j : Joined). j.fits) row) ∙ f);
+          done = λ i l. below_more (λ i. get_or (set now k r.polyvalue) i void ≡ (row_after places xs s c new i).polyvalue) k
+              (λ i l. get_or-set_other now k i r.polyvalue void (λ q. omega arith) ∙ now-at.done i l)
+              (get_or-set_same now k r.polyvalue void (omega (arith, now-at.long)) ∙ ap (λ (j : Joined). j.polyvalue) row) i (omega arith);
+          rest = λ i l. get_or-set_other now k i r.polyvalue void (λ q. omega arith) ∙ now-at.rest i (omega arith);
+        }
+
+    pub joining-fails : (count : ℕ) → k < count → r.fits ≡ false → false ≡ all count (λ i. (row_after places xs s c new i).fits)
+    joining-fails count l f = sym (all-fails count (λ i. (row_after places xs s c new i).fits) k l (sym (ap (λ (j : Joined). j.fits) row) ∙ f))
+
+-- ---- one more alternative
+
+-- in a sound book every held polyvalue gives one value
+sound-one : (b : Book) → sound places b ≡ true → Chosen places b
+sound-one b e i h a l = (sound-well-formed places (item_at b i).held ((test-sound places b e).held i h)).complete.once a l
+
+module _ (b : Book) (xs : List Step) (sure : sound places b ≡ true) (inside : some_step (outside b.count) xs ≡ false) (a : ℕ) (ha : a < 2 ^ places)
+    {t : Worked} (so_far : Covers places b xs t) (s : State) (starts : StartsAs b xs a b.count s) {e : Ran} (ends : e ≡ ran xs (state_of s)) where
+  table : InTable b xs
+  table i u = touched-below b.count xs i inside u
+
+  agree : (i : ℕ) → touches xs i ≡ true → state_of s i ≡ held_at b a i
+  agree i u = starts i (table i u) u
+
+  end-number : e.declined ≡ declined xs (held_at b a)
+  unfolding ran
+  end-number = ap (λ (r : Ran). r.declined) ends ∙ declined-reads xs (state_of s) (held_at b a) agree
+
+  end-value : (i : ℕ) → touches xs i ≡ true → state_of e.state i ≡ run xs (held_at b a) i
+  end-value i u =
+      ap (λ (r : Ran). state_of r.state i) ends ∙ ran-value xs (state_of s) i (omega (arith, table i u, (test-sound places b sure).few_items))
+      ∙ run-reads xs (state_of s) (held_at b a) agree i u
+
+  -- what a touched item's results are then
+  abbrev more : ℕ → List Pair
+  more i = canon_over places (λ c. run xs (held_at b c) i) (union places (number t.covered) (block places b xs a))
+
+  new_row : (i : ℕ) → touches xs i ≡ true → {c : ℕ} → c ≡ block places b xs a → row_after places xs e.state c t.new i ≡ fitted (get_or t.new i void) (more i)
+  unfolding joined_row
+  new_row i u {c} k =
+      rw u (ap (fitted (get_or t.new i void)) (
+      ap₂ (λ (v : ℤ) (ps : List Pair). join places v c ps) (end-value i u) (ap in_use (so_far.rows i (table i u) u) ∙ in_use-packed (canon_over places (λ c. run xs (held_at b c) i) (number t.covered)))
+      ∙ ap (λ (m : ℕ). join places (run xs (held_at b a) i) m (canon_over places (λ c. run xs (held_at b c) i) (number t.covered))) k
+      ∙ join-block places b xs (sound-one b sure) table a ha i (number t.covered) u))
+
+  module _ {c : ℕ} (k : c ≡ block places b xs a) (r : Spread) (fits : r.fits ≡ all b.count (λ i. (row_after places xs e.state c t.new i).fits)) where
+    -- where there is no room for some of an item's results, there is none for all of them
+    over : (i : ℕ) → touches xs i ≡ true → (row_after places xs e.state c t.new i).fits ≡ false → too_many places b xs ≡ true
+    unfolding too_many results
+    over i u f =
+        let many : most_pairs < length (more i) = fits-no (get_or t.new i void) (more i) (new_row i u k) f in
+        let all-many : most_pairs < together (in_use (item_at b i).held) (canon places (λ c. run xs (held_at b c) i)) =
+        omega (arith, over-count places (λ c. run xs (held_at b c) i) (union places (number t.covered) (block places b xs a)) (in_use (item_at b i).held)) in
+        any_of b.count _ i (table i u) (rw u (lt-ltb most_pairs _ all-many))
+
+    pub no_room : r.fits ≡ false → too_many places b xs ≡ true
+    unfolding joined_row
+    no_room f =
+        let found = all-not b.count (λ i. (row_after places xs e.state c t.new i).fits) (sym fits ∙ f) in
+        by_cases (touches xs found.0) (λ u. over found.0 u found.2) (λ u. absurd (true≢false (rw u at found.2)))
+
+    covers_more : RowsAfter places xs e.state c t.new b.count r.new → r.fits ≡ true → {v : Condition} → number v ≡ union places (number t.covered) c → {d g : Bool}
+        → d ≡ (some_declines places b xs (number t.covered) || declines_at b xs a) → g ≡ (some_grants places b xs (number t.covered) || not (declines_at b xs a))
+        → Covers places b xs (record { fits = r.fits; declines = d; grants = g; covered = v; new = r.new })
+    covers_more rows f {v} n ds gs =
+        record {
+          conditions = rw n (union-lt places (number t.covered) c);
+          rows = λ i l u.
+              rows i l
+              ∙ (fits-yes (get_or t.new i void) (more i) (new_row i u k) (all-at b.count (λ i. (row_after places xs e.state c t.new i).fits) (sym fits ∙ f) i l)).0
+              ∙ ap (λ (m : ℕ). packed (canon_over places (λ c. run xs (held_at b c) i) m)) (sym all-covered);
+          declines = ds ∙ sym (declines-more places b xs (sound-one b sure) table a ha (number t.covered)) ∙ ap (some_declines places b xs) (sym all-covered);
+          grants = gs ∙ sym (grants-more places b xs (sound-one b sure) table a ha (number t.covered)) ∙ ap (some_grants places b xs) (sym all-covered);
+        }
+      where
+        all-covered : number v ≡ union places (number t.covered) (block places b xs a)
+        all-covered = n ∙ ap (union places (number t.covered)) k
+
+    module _ (rows : RowsAfter places xs e.state c t.new b.count r.new) (f : r.fits ≡ true) {v : Condition} (n : number v ≡ union places (number t.covered) c) where
+      pub covers-granted : e.declined ≡ 0 → Covers places b xs (record { fits = r.fits; declines = t.declines; grants = true; covered = v; new = r.new })
+      covers-granted d =
+          let at_a : declines_at b xs a ≡ false = ap not (eq-eqb _ 0 (sym end-number ∙ d)) in
+          covers_more rows f n (so_far.declines ∙ sym (or-false _) ∙ ap (λ (x : Bool). some_declines places b xs (number t.covered) || x) (sym at_a))
+          (sym (or-true (some_grants places b xs (number t.covered))) ∙ ap (λ (x : Bool). some_grants places b xs (number t.covered) || not x) (sym at_a))
+
+      pub covers-declined : (e.declined ≡ 0 → ⊥) → Covers places b xs (record { fits = r.fits; declines = true; grants = t.grants; covered = v; new = r.new })
+      covers-declined d =
+          let at_a : declines_at b xs a ≡ true = ap not (ne_eqb _ 0 (λ q. d (end-number ∙ q))) in
+          covers_more rows f n (sym (or-true (some_declines places b xs (number t.covered))) ∙ ap (λ (x : Bool). some_declines places b xs (number t.covered) || x) (sym at_a))
+          (so_far.grants ∙ sym (or-false _) ∙ ap (λ (x : Bool). some_grants places b xs (number t.covered) || not x) (sym at_a))
+
+-- ---- all alternatives
+
+-- the assignments before the lowest one that is left are covered
+before-lowest : (s j : ℕ) → j < lowest places (complement places s) → member s j ≡ true
+unfolding lowest
+before-lowest s j h =
+    let in-range : j < 2 ^ places = omega (arith, first-le (2 ^ places) (member (complement places s))) in
+    not-false _ (sym (member-complement places s j in-range) ∙ before-first (2 ^ places) (member (complement places s)) j h)
+
+-- and it is past those
+lowest-past : (s n : ℕ) → n < 2 ^ places → ((j : ℕ) → j ≤ n → member s j ≡ true) → n < lowest places (complement places s)
+unfolding lowest
+lowest-past s n h e =
+    by_cases (ltb n (first (2 ^ places) (member (complement places s))))
+    (λ t. ltb-true n (first (2 ^ places) (member (complement places s))) t)
+    (λ t. let l : first (2 ^ places) (member (complement places s)) ≤ n = ltb-false n (first (2 ^ places) (member (complement places s))) t in
+    let in-range : first (2 ^ places) (member (complement places s)) < 2 ^ places = omega arith in
+    absurd (true≢false (sym (first_passes (2 ^ places) (member (complement places s)) in-range) ∙ member-complement places s (first (2 ^ places) (member (complement places s))) in-range
+    ∙ ap not (e (first (2 ^ places) (member (complement places s))) l))))
+
+-- t covers the assignments before n
+pub record Covering (b : Book) (xs : List Step) (n : ℕ) (t : Worked) : Type 0 where
+  pub fits : t.fits ≡ true
+  pub covers : Covers places b xs t
+  pub before : (j : ℕ) → j < n → member (number t.covered) j ≡ true
+
+module _ (b : Book) (xs : List Step) (sure : sound places b ≡ true) where
+  pub covering-start : Covering b xs 0 nothing_worked
+  unfolding nothing_worked some_declines some_grants
+  covering-start =
+      record {
+        fits = refl;
+        covers = record {
+          conditions = omega arith;
+          rows = λ i h u. get_or-replicate most_items i (packed []) void (omega (arith, (test-sound places b sure).few_items)) ∙ ap packed (sym (over_none places (λ a. run xs (held_at b a) i)));
+          declines = sym (none_any (2 ^ places) _ (λ a h. rw (member-none a)));
+          grants = sym (none_any (2 ^ places) _ (λ a h. rw (member-none a)));
+        };
+        before = λ j h. absurd (omega arith);
+      }
+
+  module _ (n : ℕ) (h : n < 2 ^ places) {t : Worked} (so_far : Covering b xs n t) (r : Worked) (more : number r.covered ≡ union places (number t.covered) (block places b xs n)) where
+    covered-now : (j : ℕ) → j ≤ n → member (number r.covered) j ≡ true
+    covered-now j l =
+        ap (λ (s : ℕ). member s j) more ∙ member_union places (number t.covered) (block places b xs n) j (omega arith) ∙
+        below_more (λ j. (member (number t.covered) j || member (block places b xs n) j) ≡ true) n (λ j l. rw (so_far.before j l))
+        (ap (λ (x : Bool). member (number t.covered) n || x) (block-own places b xs (sound-one b sure) n h) ∙ or-true (member (number t.covered) n)) j (omega arith)
+
+    module _ {m : ℕ} (left : m ≡ complement places (number r.covered)) {l : ℕ} (next : l ≡ lowest places m) where
+      is-next : l ≡ lowest places (complement places (number r.covered))
+      is-next = next ∙ ap (lowest places) left
+
+      pub covering-rises : n < l
+      covering-rises = omega (arith, is-next, lowest-past (number r.covered) n h covered-now)
+
+      pub covering-next : r.fits ≡ true → Covers places b xs r → Covering b xs l r
+      covering-next f c = record { fits = f; covers = c; before = λ j k. before-lowest (number r.covered) j (omega (arith, is-next, k)) }
+
+  -- when none is left
+  pub covering-all : (n : ℕ) → 2 ^ places ≤ n → {t : Worked} → Covering b xs n t → WorkedOut places b xs t
+  unfolding results
+  covering-all n h {t} c =
+      let all-covered : number t.covered ≡ full places =
+      same-members (2 ^ places) (number t.covered) (full places) c.covers.conditions (full-lt places) (λ a l. c.before a (omega arith) ∙ sym (member-full places a l)) in
+      record {
+        rows = λ i l u. c.covers.rows i l u ∙ ap (λ (s : ℕ). packed (canon_over places (λ a. run xs (held_at b a) i) s)) all-covered ∙ ap packed (over-full places (λ a. run xs (held_at b a) i));
+        granted = rw (c.covers.declines, c.covers.grants, all-covered) (sym (grant-is places b xs));
+      }
+
+-- item i's old and new values are more than there is room for
+abbrev pub over-at : Book → List Step → ℕ → Bool
+over-at b xs i = touches xs i && ltb most_pairs (together (in_use (item_at b i).held) (results places b xs i))
+
+pub over-worked : (b : Book) (xs : List Step) {t : Worked} → WorkedOut places b xs t → (i : ℕ) → i < b.count → {u v : Bool} → u ≡ touches xs i
+    → v ≡ (u && ltb most_pairs (together (in_use (item_at b i).held) (in_use (get_or t.new i void)))) → v ≡ over-at b xs i
+over-worked b xs {t} w i h {u} {v} e is =
+    is ∙ ap (λ (x : Bool). x && ltb most_pairs (together (in_use (item_at b i).held) (in_use (get_or t.new i void)))) e
+    ∙ by_cases (touches xs i)
+    (λ y. rw y (ap (λ (ps : List Pair). ltb most_pairs (together (in_use (item_at b i).held) ps)) (ap in_use (w.rows i h y) ∙ in_use-packed (results places b xs i))))
+    (λ y. rw y)

@@ -1,0 +1,65 @@
+-- The loop's invariant: no district before d is in the set and on a transaction.
+use mathlib.Core.Path.{◌≡◌, refl, sym, ◌∙◌}
+use mathlib.Core.Bool.{false, not, ◌&&◌}
+use Prim.Native.Nat.{◌≤◌, ◌-◌}
+use native.Mathlib.Numerals.{add-one}
+use native.Mathlib.Omega.{arith}
+use lib.Dec.{eqb}
+use lib.ListN.{get_or}
+use borrow.Author.Rules.{rules}
+use Rattle.conditions.specs.Below.{any}
+use Rattle.conditions.specs.Sets.{member}
+use Rattle.conditions.proofs.Laws.Below.{any_of, any-more}
+use Rattle.book.specs.Book.{no_record, record_on}
+use Rattle.book.proofs.touched.some_busy.Statement.{statement}
+use Rattle.book.proofs.touched.some_busy.Tie as tie
+
+abbrev invariant-loop : tie.invariant-loop
+invariant-loop districts set records d₀ d = (d ≤ districts) × (any d (λ d. member set d && not (eqb (record_on (get_or records d no_record)) 0)) ≡ false)
+
+abbrev decreases-loop : tie.decreases-loop
+decreases-loop districts set records d₀ d = districts - d
+
+loop-holds : tie.Need-loop-init invariant-loop decreases-loop
+unfolding any
+loop-holds c = (omega arith, refl)
+
+mul-r : tie.Need-overflow-mul-r invariant-loop decreases-loop
+mul-r c = record { fits = omega (arith, c.before.before.requires) }
+
+array-copy-out-r : tie.Need-array-copy-out-r invariant-loop decreases-loop
+array-copy-out-r c = omega (arith, c.before.before.requires)
+
+is-busy-requires : tie.Need-is-busy-requires invariant-loop decreases-loop
+is-busy-requires c κs = search rules
+
+returns : tie.Need-returns invariant-loop decreases-loop
+returns c = sym (any_of _ _ c.before.before.before.before.loop.d (omega arith) (sym c.before.is-busy.ensures ∙ c.if1.true))
+
+add-d : tie.Need-overflow-add-d invariant-loop decreases-loop
+add-d c = search rules
+
+loop-less : tie.Need-loop-smaller invariant-loop decreases-loop
+loop-less c = omega arith
+
+loop-again : tie.Need-loop-preserved invariant-loop decreases-loop
+loop-again c = (omega arith, rw add-one (any-more _ _ c.before.before.before.before.loop.invariant.1 (sym c.before.is-busy.ensures ∙ c.if1.false)))
+
+returns-2 : tie.Need-returns-2 invariant-loop decreases-loop
+returns-2 c = let last : c.before.loop.d ≡ c.before.before.args.districts = omega (arith, c.before.loop.invariant.0) in sym (rw last at c.before.loop.invariant.1)
+
+pub some-busy-spec : {M : Type 1} → statement M
+some-busy-spec =
+    tie.close
+    (tie.spec
+    invariant-loop
+    decreases-loop
+    loop-holds
+    mul-r
+    array-copy-out-r
+    is-busy-requires
+    returns
+    add-d
+    loop-less
+    loop-again
+    returns-2)

@@ -1,0 +1,136 @@
+// Complete and abort: the decision of a transaction.
+ghost use Rattle.std.specs.Prelude.{◌≡◌, true, not, ◌&&◌, ℕ, ◌<◌, ◌≤◌};
+ghost use Rattle.conditions.specs.Below.{any};
+ghost use Rattle.conditions.specs.Sets.{member};
+ghost use Rattle.conditions.specs.Places.{places};
+ghost use Rattle.book.specs.Book.{most_districts, place_of};
+ghost use Rattle.book.specs.Forget.{forget};
+ghost use Rattle.book.specs.Decide.{decide, complete, abort};
+ghost use Rattle.book.specs.SoundTest.{sound};
+
+use crate::sets::has;
+use crate::tables::{FREE, item_depends, place_of, some_on};
+use crate::{Answer, Book, Done, Open};
+use conditions::{PLACES, Place, TransactionNumber};
+
+// Whether the district is touched and has not reported ready.
+fn is_awaited(o: Open, d: usize) -> bool
+    ensures { result ≡ (member o.touched d && not (member o.ready d)) }
+{
+    if !has(o.touched, d) {
+        return false;
+    }
+    !has(o.ready, d)
+}
+
+// Whether a district is.
+fn some_awaited(o: Open, districts: usize) -> bool
+    requires { districts ≤ most_districts }
+    ensures { result ≡ any districts (λ d. member o.touched d && not (member o.ready d)) }
+{
+    let mut d: usize = 0;
+    while d < districts {
+        if is_awaited(o, d) {
+            return true;
+        }
+        d += 1;
+    }
+    false
+}
+
+// The transaction at the place has the decision, and is closed where no district is on it and no item
+// depends on it: nothing else can be forgotten.
+fn decided(mut b: Book, q: usize, decision: u8) -> Book
+    requires { (sound places b ≡ true) × (q < places) × (1 ≤ decision) }
+    ensures { (n : ℕ) → q ≡ place_of places b n → result ≡ forget places (decide places b n decision) }
+{
+    let mut o = b.open[q];
+    o.decision = decision;
+    b.open[q] = o;
+    let records = b.records;
+    if some_on(records, b.districts, o.number.0) {
+        return b;
+    }
+    let count = b.count;
+    let mut i: usize = 0;
+    while i < count {
+        let x = b.items[i];
+        if item_depends(x, Place(q)) {
+            return b;
+        }
+        i += 1;
+    }
+    let closed = FREE;
+    b.open[q] = closed;
+    b
+}
+
+impl Book {
+    // The call that completes.
+    pub fn complete(self, n: TransactionNumber) -> Done
+        ensures { result ≡ complete places self n.0 }
+    {
+        if !self.is_sound() {
+            return Done {
+                answer: Answer::Unsound,
+                book: self,
+            };
+        }
+        let q = place_of(self.open, n);
+        if PLACES <= q {
+            return Done {
+                answer: Answer::NotOpen,
+                book: self,
+            };
+        }
+        let o = self.open[q];
+        if o.decision != 0 {
+            return Done {
+                answer: Answer::AlreadyDecided,
+                book: self,
+            };
+        }
+        if some_awaited(o, self.districts) {
+            return Done {
+                answer: Answer::NotReady,
+                book: self,
+            };
+        }
+        let after = decided(self, q, 1);
+        Done {
+            answer: Answer::Accepted,
+            book: after,
+        }
+    }
+
+    // The call that aborts.
+    pub fn abort(self, n: TransactionNumber) -> Done
+        ensures { result ≡ abort places self n.0 }
+    {
+        if !self.is_sound() {
+            return Done {
+                answer: Answer::Unsound,
+                book: self,
+            };
+        }
+        let q = place_of(self.open, n);
+        if PLACES <= q {
+            return Done {
+                answer: Answer::NotOpen,
+                book: self,
+            };
+        }
+        let o = self.open[q];
+        if o.decision != 0 {
+            return Done {
+                answer: Answer::AlreadyDecided,
+                book: self,
+            };
+        }
+        let after = decided(self, q, 2);
+        Done {
+            answer: Answer::Accepted,
+            book: after,
+        }
+    }
+}

@@ -1,0 +1,84 @@
+// Forgetting, at the end of each accepted event.
+ghost use Rattle.std.specs.Prelude.{◌≡◌, ◌<◌, ◌≤◌};
+ghost use Rattle.conditions.specs.Places.{places as Places·places};
+ghost use Rattle.book.specs.declared.Book.{Book};
+ghost use Rattle.book.specs.Book.{most_districts, most_items};
+ghost use Rattle.book.specs.Rows.{rows};
+ghost use Rattle.book.specs.Forget.{kept, remembered, forget};
+ghost use Rattle.book.specs.Tables.{TablesOf};
+
+use crate::sets::has;
+use crate::tables::{FREE, Tables, places_of, some_on};
+use crate::{Book, Open};
+use conditions::PLACES;
+
+// Whether the transaction at a place stays: it is not decided, or has a district on it or a polyvalue
+// that depends on it.
+pub(crate) fn is_kept(t: Tables, q: usize, o: Open) -> bool
+    requires { (t.districts ≤ most_districts) × (q < Places·places) }
+    ensures { (b : Book) → TablesOf Places·places b t → result ≡ kept Places·places b q o }
+{
+    if o.decision == 0 {
+        return true;
+    }
+    let records = t.records;
+    if some_on(records, t.districts, o.number.0) {
+        return true;
+    }
+    has(t.depended, q)
+}
+
+// What a place holds afterwards: a transaction that does not stay is closed.
+fn remembered(t: Tables, q: usize, o: Open) -> Open
+    requires { (t.districts ≤ most_districts) × (q < Places·places) }
+    ensures { (b : Book) → TablesOf Places·places b t → result ≡ remembered Places·places b q o }
+{
+    if is_kept(t, q, o) {
+        return o;
+    }
+    FREE
+}
+
+// Each place so.
+fn remembered_places(t: Tables) -> [Open; PLACES]
+    requires { t.districts ≤ most_districts }
+    ensures { (b : Book) → TablesOf Places·places b t → result ≡ rows (remembered Places·places b) Places·places t.«open» }
+{
+    let mut places = t.open;
+    let mut q: usize = 0;
+    while q < PLACES {
+        let o = places[q];
+        let kept = remembered(t, q, o);
+        places[q] = kept;
+        q += 1;
+    }
+    places
+}
+
+// The book with each such place freed.
+pub(crate) fn forget(mut b: Book) -> Book
+    requires { (b.districts ≤ most_districts) × (b.count ≤ most_items) }
+    ensures { result ≡ forget Places·places b }
+{
+    let count = b.count;
+    let mut depended: u8 = 0;
+    let mut i: usize = 0;
+    while i < count {
+        let x = b.items[i];
+        depended = depended | places_of(x);
+        i += 1;
+    }
+    let last = b.last;
+    let districts = b.districts;
+    let records = b.records;
+    let open = b.open;
+    let places = remembered_places(Tables {
+        last,
+        districts,
+        records,
+        open,
+        depended,
+    });
+    b.open = places;
+    b
+}

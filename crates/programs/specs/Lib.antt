@@ -1,3 +1,0 @@
-pub mod Programs
-pub mod Judged
-pub mod States
