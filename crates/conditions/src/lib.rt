@@ -3,6 +3,8 @@
 // Every function is proved to return what its definition in `specs/` says, for every argument. No
 // public function has a `requires`, and nothing is assumed. A place past the last one is no place of
 // an assignment: it is completed in none, setting it changes nothing, and nothing depends on it.
+#![tactic(auto)]
+
 mod condition;
 mod place;
 mod product;
