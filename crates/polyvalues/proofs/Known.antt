@@ -1,7 +1,7 @@
 -- What holding a polyvalue tells of it: it has all its rows, and its conditions are sets of assignments.
-use mathlib.Core.Path.{◌≡◌, refl, sym, ap₂, ◌∙◌}
+use mathlib.Core.Path.{◌≡◌, refl, ap₂}
 use mathlib.Core.Bool.{Bool, true, ◌&&◌}
-use mathlib.Core.List.{List, [], ◌∷◌, map}
+use mathlib.Core.List.{List, [], ◌∷◌}
 use Prim.Native.Nat.{ℕ, zero, suc}
 use native.Mathlib.Omega.{arith}
 use denote.Array.{each as elements}
@@ -9,7 +9,7 @@ use denote.Shadow.{shadow}
 use denote.Signed.{SInt}
 use mir.Syntax.{w16}
 use lib.IntN.{ℤ, pos}
-use lib.ListN.{length, get_or, take, length-map}
+use lib.ListN.{length, get_or, take}
 use mir.Val.{Val, SFits}
 use Rattle.polyvalues.specs.declared.polyvalue.Pair.{Pair}
 use Rattle.polyvalues.specs.declared.polyvalue.Polyvalue.{Polyvalue}
@@ -28,13 +28,13 @@ pub record Held (q : Polyvalue) : Type 0 where
   pub own : shadow ((TPolyvalue.the_field).row.own_val ((TPolyvalue.the_field).into q) values)
 
 pub all-rows : {q : Polyvalue} → Held q → AllRows q
-all-rows {q} h = record { values = sym (length-map q.values _) ∙ h.own.1.1.1.0.1.0.1; conditions = sym (length-map q.conditions (TCondition.the_field).into) ∙ h.own.1.1.1.1.0.1.0.1 }
+all-rows {q} h = record { values = h.own.1.1.1.0.1.0.1; conditions = h.own.1.1.1.1.0.1.0.1 }
 
 pub held-long : {q : Polyvalue} → Held q → length (rows_of q) ≡ most_pairs
 held-long h = rows_long (all-rows h)
 
 -- each value is one of 16 bits
-fits-at : (vs : List ℤ) (us : List Val) → shadow (elements ℤ (SInt w16).own_val (map (λ z. z) vs) us) → (i : ℕ) → SFits w16 (get_or vs i (pos 0))
+fits-at : (vs : List ℤ) (us : List Val) → shadow (elements ℤ (SInt w16).own_val vs us) → (i : ℕ) → SFits w16 (get_or vs i (pos 0))
 fits-at [] us s i = record { sfits = omega arith }
 fits-at (v ∷ vs) [] s i = absurd s
 fits-at (v ∷ vs) (u ∷ us) s zero = record { sfits = s.0.1 }
@@ -44,12 +44,12 @@ pub value-fits : {q : Polyvalue} → Held q → (i : ℕ) → SFits w16 (get_or 
 value-fits {q} h = fits-at q.values h.own.1.1.1.0.0 h.own.1.1.1.0.1.1
 
 -- each condition is a set of assignments
-of_places : (vs : List ℤ) (cs : List Condition) (us : List Val) → shadow (elements (TCondition.the_field).row.Denot (TCondition.the_field).row.own_val (map (TCondition.the_field).into cs) us)
+rows-of_places : (vs : List ℤ) (cs : List Condition) (us : List Val) → shadow (elements Condition (TCondition.the_row).own_val cs us)
     → each (of_places places) (paired vs cs) ≡ true
-of_places [] cs us s = refl
-of_places (v ∷ vs) [] us s = refl
-of_places (v ∷ vs) (c ∷ cs) [] s = absurd s
-of_places (v ∷ vs) (c ∷ cs) (u ∷ us) s = ap₂ ◌&&◌ (lt-ltb c.0 _ s.0.1.1.0.1) (of_places vs cs us s.1)
+rows-of_places [] cs us s = refl
+rows-of_places (v ∷ vs) [] us s = refl
+rows-of_places (v ∷ vs) (c ∷ cs) [] s = absurd s
+rows-of_places (v ∷ vs) (c ∷ cs) (u ∷ us) s = ap₂ ◌&&◌ (lt-ltb c.0 _ s.0.1.1.0.1) (rows-of_places vs cs us s.1)
 
 each_take : (f : Pair → Bool) (n : ℕ) (ps : List Pair) → each f ps ≡ true → each f (take n ps) ≡ true
 each_take f zero ps e = refl
@@ -58,4 +58,4 @@ each_take f (suc n) (p ∷ ps) e = ap₂ ◌&&◌ (and_left (f p) _ e) (each_tak
 
 pub conditions-of-places : {q : Polyvalue} → Held q → each (of_places places) (in_use q) ≡ true
 unfolding in_use
-conditions-of-places {q} h = each_take (of_places places) q.count (rows_of q) (of_places q.values q.conditions h.own.1.1.1.1.0.0 h.own.1.1.1.1.0.1.1)
+conditions-of-places {q} h = each_take (of_places places) q.count (rows_of q) (rows-of_places q.values q.conditions h.own.1.1.1.1.0.0 h.own.1.1.1.1.0.1.1)

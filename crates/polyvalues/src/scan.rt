@@ -10,7 +10,7 @@ use crate::{Pair, Polyvalue};
 use conditions::ASSIGNMENTS;
 
 // The value of the one pair that applies, if exactly one does.
-#[derive(Drop)]
+#[derive(Clone, Copy)]
 pub enum Asked {
     Value(i16),
     Refused,
@@ -18,7 +18,7 @@ pub enum Asked {
 
 // How many of the pairs so far apply, where 2 is more than one, and the value of the first that
 // does.
-#[derive(Drop)]
+#[derive(Clone, Copy)]
 struct Scan {
     hits: usize,
     value: i16,

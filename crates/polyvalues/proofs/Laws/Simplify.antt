@@ -36,7 +36,7 @@ simple-from : (w : ℕ) (qs ps : List Pair) → each (of_places w) ps ≡ true �
 unfolding simplified_from
 simple-from w qs [] e s = s
 simple-from w qs (p ∷ ps) e s =
-    simple-from w _ ps (and_right (of_places w p) _ e) (simple-join w p.value (assignments p) qs (ltb-true _ _ (and_left (of_places w p) _ e)) s)
+    simple-from w (join w p.value (assignments p) qs) ps (and_right (of_places w p) _ e) (simple-join w p.value (assignments p) qs (ltb-true _ _ (and_left (of_places w p) _ e)) s)
 
 pub simple-simplified : (w : ℕ) (ps : List Pair) → each (of_places w) ps ≡ true → Simple w (simplified w ps)
 unfolding simplified
@@ -49,7 +49,7 @@ module _ (w : ℕ) (f : Pair → Bool) (both : (p q : Pair) → f p ≡ true →
   each_from qs [] d e = d
   each_from qs (p ∷ ps) d e =
       let first : f p ≡ true = and_left (f p) _ e in
-      each_from _ ps (each-join w p.value (assignments p) f (λ q g. both q p g first) qs (λ n. first) d) (and_right (f p) _ e)
+      each_from (join w p.value (assignments p) qs) ps (each-join w p.value (assignments p) f (λ q g. both q p g first) qs (λ n. first) d) (and_right (f p) _ e)
 
   pub each-simplified : (ps : List Pair) → each f ps ≡ true → each f (simplified w ps) ≡ true
   unfolding simplified

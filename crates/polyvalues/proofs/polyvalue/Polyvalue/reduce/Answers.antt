@@ -1,0 +1,17 @@
+-- A reduction has no more values than before, so there is room.
+use Rattle.conditions.specs.Places.{places}
+use Rattle.polyvalues.specs.declared.operations.Cut.TheVariants.{Reduced}
+use Rattle.polyvalues.specs.Operations.{cut, reduce}
+use Rattle.polyvalues.proofs.Known.{Held, held-long}
+use Rattle.polyvalues.proofs.Inserting.{in-use-le}
+use Rattle.polyvalues.proofs.Joining.{packed-again, changed-rows}
+use Rattle.polyvalues.proofs.polyvalue.Polyvalue.reduce.Goals as goal
+
+pub join_rows-requires : goal.join_rows-requires
+join_rows-requires c = packed-again _ c.nothing.ensures
+
+pub returns : goal.returns
+unfolding reduce
+returns c =
+    let held : Held c.args.self = record { values = _; own = c.well_formed.0 } in
+    changed-rows places (cut places _ (Reduced _)) c.nothing.ensures c.args.self (in-use-le c.args.self (held-long held)) c.join_rows.ensures

@@ -1,0 +1,46 @@
+use mathlib.Core.Path.{refl, sym, ◌∙◌}
+use native.Mathlib.Numerals.{add-one}
+use native.Mathlib.Omega.{arith}
+use lib.ListN.{drop_of_length-le}
+use borrow.Author.Tests.{not-true, not-false}
+use Rattle.polyvalues.specs.Polyvalues.{in_use}
+use Rattle.polyvalues.proofs.Joining.{in-use-more}
+use Rattle.polyvalues.proofs.Comparing.{same_not}
+use Rattle.polyvalues.proofs.polyvalue.Polyvalue.same.Goals as goal
+
+pub returns-then-n-len : goal.returns-then-n-len
+returns-then-n-len c = same_not (in_use c.args.self) (in_use c.args.other) (λ e. c.if-n-len.true (c.len-n.ensures.value ∙ e ∙ sym c.len.ensures.value))
+
+pub loop-i-init : goal.loop-i-init
+loop-i-init c = (c.if-n-len.false ∙ c.len.ensures.value, refl)
+
+pub row-row-requires : goal.row-row-requires
+row-row-requires c = omega (arith, c.len-n.ensures.upper_bound)
+
+pub row-twin-requires : goal.row-twin-requires
+row-twin-requires c = omega (arith, c.len-n.ensures.upper_bound)
+
+pub returns-then-not-same : goal.returns-then-not-same
+returns-then-not-same c =
+    rw (
+      in-use-more c.args.self c.loop-i.i c.row-row.ensures (omega (arith, c.len-n.ensures.value)),
+      in-use-more c.args.other c.loop-i.i c.row-twin.ensures (omega (arith, c.loop-i.invariant.0)),
+      sym c.same.ensures ∙ not-true _ c.if-not-same.true-raw,
+    ) at c.loop-i.invariant.1
+
+pub loop-i-smaller : goal.loop-i-smaller
+loop-i-smaller c = omega arith
+
+pub loop-i-preserved : goal.loop-i-preserved
+loop-i-preserved c = (
+  c.loop-i.invariant.0,
+  rw add-one (rw (
+    in-use-more c.args.self c.loop-i.i c.row-row.ensures (omega (arith, c.len-n.ensures.value)),
+    in-use-more c.args.other c.loop-i.i c.row-twin.ensures (omega (arith, c.loop-i.invariant.0)),
+    sym c.same.ensures ∙ not-false _ c.if-not-same.false-raw,
+  ) at c.loop-i.invariant.1),
+)
+
+pub returns : goal.returns
+returns c =
+    rw (drop_of_length-le (in_use c.args.self) {i = c.loop-i.i} (omega (arith, c.len-n.ensures.value)), drop_of_length-le (in_use c.args.other) {i = c.loop-i.i} (omega (arith, c.loop-i.invariant.0))) at c.loop-i.invariant.1
