@@ -1,5 +1,4 @@
 pub mod Laws
-mod Lent
 mod States
 mod Naming
 mod Reading

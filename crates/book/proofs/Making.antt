@@ -5,7 +5,7 @@ use mathlib.Core.List.{List, ◌++◌, map}
 use Prim.Native.Nat.{ℕ, suc, ◌-◌, ◌≤◌, ◌<◌}
 use native.Mathlib.Omega.{arith}
 use denote.Shadow.{shadow}
-use lib.ListN.{length, get_or, drop, replicate, length-map, length-take}
+use lib.ListN.{length, get_or, drop, replicate, length-take}
 use mir.Val.{Val}
 use borrow.Author.Tests.{not-false, not-true}
 use Rattle.conditions.specs.Places.{places}
@@ -17,7 +17,6 @@ use Rattle.book.specs.Book.{most_items, no_item, no_book}
 use Rattle.book.specs.Open.{no_opening, good_item, good_items, good_opening, opened_item, opened_book, opened}
 use Rattle.book.specs.Openings.{openings_of, opened_rows}
 use Rattle.book.proofs.Laws.Openings.{rows-opened}
-use Rattle.book.specs.contracts.Opening as TOpening
 use Rattle.book.specs.contracts.maker.Openings as TOpenings
 
 -- t is a value that code holds
@@ -26,7 +25,7 @@ pub record Held (t : Openings) : Type 0 where
   pub own : shadow ((TOpenings.the_field).row.own_val ((TOpenings.the_field).into t) values)
 
 pub items-long : {t : Openings} → Held t → length t.items ≡ most_items
-items-long {t} h = sym (length-map t.items (TOpening.the_field).into) ∙ h.own.1.1.1.0.1.0.1
+items-long {t} h = h.own.1.1.1.0.1.0.1
 
 pub openings-count : {t : Openings} → Held t → t.count ≤ most_items → length (openings_of t) ≡ t.count
 unfolding openings_of

@@ -23,7 +23,7 @@ use Rattle.book.proofs.Laws.Touched.{item-below}
 
 -- a number of 16 bits is what its bits say
 pub back : (z : ℤ) → mag z < 32768 → to_z w16 (of_z w16 z) ≡ z
-back z h = to_z-of_z (record { sfits = h })
+back z h = to_z-of_z {w = w16} (record { sfits = h })
 
 -- one below zero numbers no item
 pub numbers-none : (z : ℤ) → lt_z z (pos 0) ≡ true → 0 ≡ numbered z

@@ -7,7 +7,7 @@ use native.Mathlib.Nat.{add_comm}
 use denote.Shadow.{shadow}
 use lib.Dec.{eqb}
 use lib.IntN.{ℤ}
-use lib.ListN.{length, get_or, take, drop, replicate, length-map, length-take}
+use lib.ListN.{length, get_or, take, drop, replicate, length-take}
 use lib.Seq.{take-length, take-append_seam}
 use mir.Val.{Val}
 use borrow.Author.Tests.{ltb-false}
@@ -20,9 +20,8 @@ use Rattle.book.specs.Book.{most_items}
 use Rattle.book.specs.Programs.{steps, some_step}
 use Rattle.book.specs.Begin.{most_steps, bad_length, bad_program, outside}
 use Rattle.book.specs.States.{no_step, steps_of, program_of}
-use Rattle.book.proofs.Laws.Steps.{get_d-steps}
+use Rattle.book.proofs.Laws.Steps.{get_or-steps}
 use Rattle.book.proofs.Filling.{filled_upto}
-use Rattle.book.specs.contracts.Step as TStep
 use Rattle.book.specs.contracts.program.Program as TProgram
 use Rattle.book.proofs.Naming.{some-none}
 
@@ -32,7 +31,7 @@ pub record Held (p : Program) : Type 0 where
   pub own : shadow ((TProgram.the_field).row.own_val ((TProgram.the_field).into p) values)
 
 pub steps-long : {p : Program} → Held p → length p.steps ≡ most_steps
-steps-long {p} h = sym (length-map p.steps (TStep.the_field).into) ∙ h.own.1.1.1.0.1.0.1
+steps-long {p} h = h.own.1.1.1.0.1.0.1
 
 -- ---- a program as bytes
 
@@ -43,7 +42,7 @@ step-read bytes j h e =
     let high = ap (λ (i : ℕ). get_or bytes i 0) (add_comm (4 * j) 2) in
     let low = ap (λ (i : ℕ). get_or bytes i 0) (add_comm (4 * j) 3) in
     let operand = e ∙ ap₂ of_bytes high low in
-    (λ k. record { kind = get_or bytes (4 * j) 0; item = item k; operand = operand k }) ∙ sym (get_d-steps bytes j h)
+    (λ k. record { kind = get_or bytes (4 * j) 0; item = item k; operand = operand k }) ∙ sym (get_or-steps bytes j h)
 
 pub few-steps : (bytes : List ℕ) → bad_length bytes ≡ false → length (steps bytes) ≤ most_steps
 few-steps bytes e = ltb-false most_steps (length (steps bytes)) (or_right (not (eqb (length bytes % 4) 0) || eqb (length (steps bytes)) 0) _ e)

@@ -7,7 +7,7 @@ use native.Mathlib.Omega.{arith}
 use denote.Shadow.{shadow}
 use lib.Dec.{eqb, ltb}
 use lib.IntN.{ℤ, pos}
-use lib.ListN.{length, get_or, set, length-map, length-set, get_or-eq_default}
+use lib.ListN.{length, get_or, set, length-set, get_or-eq_default}
 use lib.Seq.{ext_get_or, get_or-set_same, get_or-set_other}
 use mir.Val.{Val}
 use borrow.Author.Tests.{eqb-true, eqb-false, ltb-true, ltb-false}
@@ -17,7 +17,6 @@ use Rattle.book.specs.declared.state.State.{State}
 use Rattle.book.specs.Book.{most_items}
 use Rattle.book.specs.Programs.{takes}
 use Rattle.book.specs.States.{value_of, state_of, values_from, state_rows}
-use Rattle.book.specs.contracts.state.Value as TValue
 use Rattle.book.specs.contracts.state.State as TState
 
 -- s is a value that code holds
@@ -26,7 +25,7 @@ pub record Held (s : State) : Type 0 where
   pub own : shadow ((TState.the_field).row.own_val ((TState.the_field).into s) values)
 
 pub values-long : {s : State} → Held s → length s.values ≡ most_items
-values-long {s} h = sym (length-map s.values (TValue.the_field).into) ∙ h.own.1.1.0.1.0.1
+values-long {s} h = h.own.1.1.0.1.0.1
 
 -- ---- rows made of values
 
@@ -35,12 +34,12 @@ unfolding values_from
 length-values i zero s = refl
 length-values i (suc n) s = ap suc (length-values (suc i) n s)
 
-get_d-values : (i n : ℕ) (s : ℕ → ℤ) (j : ℕ) (d : Value) → j < n → get_or (values_from i n s) j d ≡ value_of (s (i + j))
+get_or-values : (i n : ℕ) (s : ℕ → ℤ) (j : ℕ) (d : Value) → j < n → get_or (values_from i n s) j d ≡ value_of (s (i + j))
 unfolding values_from
-get_d-values i zero s j d h = absurd (omega arith)
-get_d-values i (suc n) s zero d h = rw (add-zero i)
-get_d-values i (suc n) s (suc j) d h =
-    let same : suc i + j ≡ i + suc j = omega arith in get_d-values (suc i) n s j d (omega arith) ∙ ap (λ (k : ℕ). value_of (s k)) same
+get_or-values i zero s j d h = absurd (omega arith)
+get_or-values i (suc n) s zero d h = rw (add-zero i)
+get_or-values i (suc n) s (suc j) d h =
+    let same : suc i + j ≡ i + suc j = omega arith in get_or-values (suc i) n s j d (omega arith) ∙ ap (λ (k : ℕ). value_of (s k)) same
 
 pub rows_long : (s : ℕ → ℤ) → length (state_rows s).values ≡ most_items
 unfolding state_rows
@@ -52,12 +51,12 @@ unfolding state_rows state_of
 rows_back s l =
     ap (λ (vs : List Value). record { values = vs })
     (ext_get_or (value_of (pos 0)) _ _ (length-values 0 most_items (state_of s) ∙ sym l) (λ j h.
-    get_d-values 0 most_items (state_of s) j (value_of (pos 0)) (omega (arith, length-values 0 most_items (state_of s))) ∙ ap (λ (k : ℕ). value_of (state_of s k)) (zero-add j)))
+    get_or-values 0 most_items (state_of s) j (value_of (pos 0)) (omega (arith, length-values 0 most_items (state_of s))) ∙ ap (λ (k : ℕ). value_of (state_of s k)) (zero-add j)))
 
 -- rows keep the values of the items
 pub state-row : (s : ℕ → ℤ) (i : ℕ) → i < most_items → state_of (state_rows s) i ≡ s i
 unfolding state_rows state_of
-state-row s i h = ap (λ (v : Value). v.0) (get_d-values 0 most_items s i (value_of (pos 0)) h) ∙ ap s (zero-add i)
+state-row s i h = ap (λ (v : Value). v.0) (get_or-values 0 most_items s i (value_of (pos 0)) h) ∙ ap s (zero-add i)
 
 -- past them there is 0
 pub state-past : (s : State) → length s.values ≡ most_items → (i : ℕ) → most_items ≤ i → state_of s i ≡ pos 0

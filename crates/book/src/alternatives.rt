@@ -22,7 +22,7 @@ use conditions::{ASSIGNMENTS, Condition};
 use polyvalues::{Joined, PAIRS, Pair, Polyvalue};
 
 // A block of assignments, and the state that the program is run on under each of them.
-#[derive(Drop)]
+#[derive(Clone, Copy)]
 struct Alternative {
     condition: Condition,
     state: State,
@@ -70,7 +70,7 @@ fn alternative_under(b: Book, p: Program, assignment: usize) -> Alternative
 }
 
 // The new polyvalues of the items, and whether there was room for them.
-#[derive(Drop)]
+#[derive(Clone, Copy)]
 struct Spread {
     fits: bool,
     new: [Polyvalue; ITEMS],
@@ -127,7 +127,7 @@ fn joined_in(
 
 // What is worked out so far: whether there was room for it, whether the program declines and whether
 // it does not, under which assignments, and the new polyvalues of the touched items.
-#[derive(Drop)]
+#[derive(Clone, Copy)]
 pub struct Worked {
     pub fits: bool,
     pub declines: bool,

@@ -2,6 +2,8 @@
 //
 // Every public function is proved to return what its definition in `specs/` says, for every argument:
 // any book may be handed in. No public function has a `requires`, and nothing is assumed.
+#![tactic(auto)]
+
 mod alternatives;
 mod answers;
 mod begin;
@@ -31,14 +33,14 @@ use polyvalues::Polyvalue;
 pub use tables::{DISTRICTS, ITEMS};
 
 // A district's record: idle (0), computing (1) or waiting (2), and on which transaction.
-#[derive(Drop)]
+#[derive(Clone, Copy)]
 pub struct Record {
     pub phase: u8,
     pub transaction: TransactionNumber,
 }
 
 // An item of a district.
-#[derive(Drop)]
+#[derive(Clone, Copy)]
 pub struct Item {
     pub district: u8,
     pub held: Polyvalue,
@@ -47,7 +49,7 @@ pub struct Item {
 
 // An open transaction at its place: sets of districts, and a decision (0 none, 1 completed, 2 aborted).
 // A free place is all zeros.
-#[derive(Drop)]
+#[derive(Clone, Copy)]
 pub struct Open {
     pub number: TransactionNumber,
     pub touched: u8,
@@ -57,7 +59,7 @@ pub struct Open {
 }
 
 // The first `districts` records and the first `count` items count; the rows past them are zero.
-#[derive(Drop)]
+#[derive(Clone, Copy)]
 pub struct Book {
     pub last: TransactionNumber,
     pub districts: usize,
@@ -68,7 +70,7 @@ pub struct Book {
 }
 
 // A step of a program: 4 bytes.
-#[derive(Drop)]
+#[derive(Clone, Copy)]
 pub struct Step {
     pub kind: u8,
     pub item: u8,
@@ -76,13 +78,13 @@ pub struct Step {
 }
 
 // An item of a book that is to be opened.
-#[derive(Drop)]
+#[derive(Clone, Copy)]
 pub struct Opening {
     pub district: u8,
     pub value: i16,
 }
 
-#[derive(Drop)]
+#[derive(Clone, Copy)]
 pub enum Answer {
     Accepted,
     NoDistrict,
@@ -104,7 +106,7 @@ pub enum Answer {
 }
 
 // What begin answers.
-#[derive(Drop)]
+#[derive(Clone, Copy)]
 pub struct Begun {
     pub answer: Answer,
     pub number: TransactionNumber,
@@ -113,14 +115,14 @@ pub struct Begun {
 }
 
 // What the other events on a transaction answer.
-#[derive(Drop)]
+#[derive(Clone, Copy)]
 pub struct Done {
     pub answer: Answer,
     pub book: Book,
 }
 
 // What show answers, and where its line ends in the buffer: 0 where it is refused.
-#[derive(Drop)]
+#[derive(Clone, Copy)]
 pub struct Shown {
     pub answer: Answer,
     pub end: usize,

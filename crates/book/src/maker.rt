@@ -12,7 +12,7 @@ use conditions::{PLACES, TransactionNumber};
 use polyvalues::{Polyvalue, in_range};
 
 // The first `count` items count.
-#[derive(Drop)]
+#[derive(Clone, Copy)]
 pub struct Openings {
     pub count: usize,
     pub items: [Opening; ITEMS],

@@ -13,7 +13,7 @@ use polyvalues::of_bytes;
 const STEPS: usize = 8;
 
 // The first `count` steps count; the rows past them are zero.
-#[derive(Drop)]
+#[derive(Clone, Copy)]
 pub struct Program {
     count: usize,
     steps: [Step; STEPS],
@@ -21,7 +21,7 @@ pub struct Program {
 
 // The number of the first step that declined, from 1 on, and 0 where none did; and the state after
 // the program.
-#[derive(Drop)]
+#[derive(Clone, Copy)]
 pub struct Ran {
     pub declined: usize,
     pub state: State,

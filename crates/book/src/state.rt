@@ -11,17 +11,17 @@ use crate::tables::ITEMS;
 use polyvalues::{Added, below, sum};
 
 // A value of an item.
-#[derive(Drop)]
+#[derive(Clone, Copy)]
 pub struct Value(pub i16);
 
 // A value for each item.
-#[derive(Drop)]
+#[derive(Clone, Copy)]
 pub struct State {
     pub values: [Value; ITEMS],
 }
 
 // What a step leaves: a state that is as it was, where it declines.
-#[derive(Drop)]
+#[derive(Clone, Copy)]
 pub struct Stepped {
     pub declines: bool,
     pub state: State,

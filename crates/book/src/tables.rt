@@ -35,7 +35,7 @@ pub(crate) const FREE: Open = Open {
 
 // All of a book but its items, and the set of the places that these depend on: what the tests of a
 // place and forgetting ask of a book, without the items themselves.
-#[derive(Drop)]
+#[derive(Clone, Copy)]
 pub struct Tables {
     pub last: TransactionNumber,
     pub districts: usize,

@@ -24,12 +24,12 @@ module _ {A : Type 0} (f : ℕ → A → A) (z : A) where
   length_from k (suc n) [] = refl
   length_from k (suc n) (x ∷ xs) = ap suc (length_from (suc k) n xs)
 
-  get_d-from : (k n : ℕ) (xs : List A) (i : ℕ) → i < n → i < length xs → get_or (rows_from k f n xs) i z ≡ f (k + i) (get_or xs i z)
+  get_or-from : (k n : ℕ) (xs : List A) (i : ℕ) → i < n → i < length xs → get_or (rows_from k f n xs) i z ≡ f (k + i) (get_or xs i z)
   unfolding rows_from
-  get_d-from k zero xs i h l = absurd (omega arith)
-  get_d-from k (suc n) [] i h l = absurd (omega arith)
-  get_d-from k (suc n) (x ∷ xs) zero h l = start k x
-  get_d-from k (suc n) (x ∷ xs) (suc i) h l = get_d-from (suc k) n xs i (omega arith) (omega arith) ∙ shift k i (get_or xs i z)
+  get_or-from k zero xs i h l = absurd (omega arith)
+  get_or-from k (suc n) [] i h l = absurd (omega arith)
+  get_or-from k (suc n) (x ∷ xs) zero h l = start k x
+  get_or-from k (suc n) (x ∷ xs) (suc i) h l = get_or-from (suc k) n xs i (omega arith) (omega arith) ∙ shift k i (get_or xs i z)
 
   past-from : (k n : ℕ) (xs : List A) (i : ℕ) → n ≤ i → get_or (rows_from k f n xs) i z ≡ get_or xs i z
   unfolding rows_from
@@ -71,7 +71,7 @@ module _ {A : Type 0} (f : ℕ → A → A) (z : A) where
 
   -- a row below n
   pub get_d_rows : (n : ℕ) (xs : List A) (i : ℕ) → i < n → i < length xs → get_or (rows f n xs) i z ≡ f i (get_or xs i z)
-  get_d_rows n xs i h l = get_d-from 0 n xs i h l ∙ here i (get_or xs i z)
+  get_d_rows n xs i h l = get_or-from 0 n xs i h l ∙ here i (get_or xs i z)
 
   -- a row from n on
   pub past-rows : (n : ℕ) (xs : List A) (i : ℕ) → n ≤ i → get_or (rows f n xs) i z ≡ get_or xs i z

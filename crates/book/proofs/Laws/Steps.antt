@@ -32,11 +32,11 @@ step-further a b c d more j =
     let l = further a b c d more (3 + 4 * suc j) (3 + 4 * j) (omega arith) in
     sym (λ m. record { kind = k m; item = i m; operand = of_bytes (h m) (l m) })
 
-pub get_d-steps : (bytes : List ℕ) (j : ℕ) → j < length (steps bytes) → get_or (steps bytes) j no_step ≡ step_at bytes (4 * j)
+pub get_or-steps : (bytes : List ℕ) (j : ℕ) → j < length (steps bytes) → get_or (steps bytes) j no_step ≡ step_at bytes (4 * j)
 unfolding steps
-get_d-steps [] j h = absurd (omega arith)
-get_d-steps (a ∷ []) j h = absurd (omega arith)
-get_d-steps (a ∷ b ∷ []) j h = absurd (omega arith)
-get_d-steps (a ∷ b ∷ c ∷ []) j h = absurd (omega arith)
-get_d-steps (a ∷ b ∷ c ∷ d ∷ more) zero h = refl
-get_d-steps (a ∷ b ∷ c ∷ d ∷ more) (suc j) h = get_d-steps more j (omega arith) ∙ step-further a b c d more j
+get_or-steps [] j h = absurd (omega arith)
+get_or-steps (a ∷ []) j h = absurd (omega arith)
+get_or-steps (a ∷ b ∷ []) j h = absurd (omega arith)
+get_or-steps (a ∷ b ∷ c ∷ []) j h = absurd (omega arith)
+get_or-steps (a ∷ b ∷ c ∷ d ∷ more) zero h = refl
+get_or-steps (a ∷ b ∷ c ∷ d ∷ more) (suc j) h = get_or-steps more j (omega arith) ∙ step-further a b c d more j

@@ -1,0 +1,23 @@
+-- The decision, the districts, then the polyvalues.
+use mathlib.Core.Path.{sym, ◌∙◌}
+use borrow.Author.Tests.{eq-eqb, ne_eqb}
+use Rattle.book.specs.Book.{some_on}
+use Rattle.book.specs.Forget.{needed, kept}
+use Rattle.book.proofs.forget.is_kept.Goals as goal
+
+pub returns-then-o-eq0 : goal.returns-then-o-eq0
+unfolding kept
+returns-then-o-eq0 c b o = rw (eq-eqb _ _ c.if-o-eq0.true)
+
+pub some_on-requires : goal.some_on-requires
+some_on-requires c = c.requires.0
+
+pub returns-then-some_on : goal.returns-then-some_on
+unfolding kept needed some_on
+returns-then-some_on c b o = rw (ne_eqb _ _ c.if-o-eq0.false, o.districts, o.records, sym c.some_on.ensures ∙ c.if-some_on.true)
+
+pub returns : goal.returns
+unfolding kept needed some_on
+returns c b o =
+    c.has.ensures ∙ o.depended c.args.q c.requires.1
+    ∙ rw (ne_eqb _ _ c.if-o-eq0.false, o.districts, o.records, sym c.some_on.ensures ∙ c.if-some_on.false)

@@ -1,0 +1,64 @@
+-- One test after the other.
+use mathlib.Core.Bool.{and-false}
+use mathlib.Core.Path.{sym, ◌∙◌}
+use native.Mathlib.Omega.{arith}
+use borrow.Author.Tests.{le-leb, lt-leb, not-true, not-false}
+use Rattle.book.specs.SoundTest.{sound_open}
+use Rattle.book.proofs.place_sound.sound_open.Goals as goal
+
+pub is_within-requires : goal.is_within-requires
+is_within-requires c = c.requires.0
+
+pub returns-then-not-is_within : goal.returns-then-not-is_within
+unfolding sound_open
+returns-then-not-is_within c b o = rw (o.districts, o.places, o.last, sym c.is_within.ensures ∙ not-true _ c.if-not-is_within.true-raw)
+
+pub is_within-requires-2 : goal.is_within-requires-2
+is_within-requires-2 c = c.requires.0
+
+pub returns-then-not-is_within-2 : goal.returns-then-not-is_within-2
+unfolding sound_open
+returns-then-not-is_within-2 c b o = rw (o.districts, o.places, o.last, sym c.is_within-2.ensures ∙ not-true _ c.if-not-is_within-2.true-raw, and-false)
+
+pub is_within-requires-3 : goal.is_within-requires-3
+is_within-requires-3 c = c.requires.0
+
+pub returns-then-not-is_within-3 : goal.returns-then-not-is_within-3
+unfolding sound_open
+returns-then-not-is_within-3 c b o = rw (o.districts, o.places, o.last, sym c.is_within-3.ensures ∙ not-true _ c.if-not-is_within-3.true-raw, and-false)
+
+pub returns-then-o-gt2 : goal.returns-then-o-gt2
+unfolding sound_open
+returns-then-o-gt2 c b o = rw (o.districts, o.places, o.last, lt-leb _ _ c.if-o-gt2.true, and-false)
+
+pub number_differs-requires : goal.number_differs-requires
+number_differs-requires c = omega (arith, c.requires.1)
+
+pub returns-then-not-number_differs : goal.returns-then-not-number_differs
+unfolding sound_open
+returns-then-not-number_differs c b o = rw (o.districts, o.places, o.last, sym c.number_differs.ensures ∙ not-true _ c.if-not-number_differs.true-raw, and-false)
+
+pub returns-then-t-o : goal.returns-then-t-o
+unfolding sound_open
+returns-then-t-o c b o = rw (o.districts, o.places, o.last, lt-leb _ _ c.if-t-o.true, and-false)
+
+pub returns-then-not-is_kept : goal.returns-then-not-is_kept
+unfolding sound_open
+returns-then-not-is_kept c b o = rw (sym (c.is_kept.ensures b o) ∙ not-true _ c.if-not-is_kept.true-raw, and-false)
+
+pub returns : goal.returns
+unfolding sound_open
+returns c b o =
+    c.sound_sets.ensures
+    ∙ rw (
+      sym (c.is_kept.ensures b o) ∙ not-false _ c.if-not-is_kept.false-raw,
+      o.districts,
+      o.places,
+      o.last,
+      sym c.is_within.ensures ∙ not-false _ c.if-not-is_within.false-raw,
+      sym c.is_within-2.ensures ∙ not-false _ c.if-not-is_within-2.false-raw,
+      sym c.is_within-3.ensures ∙ not-false _ c.if-not-is_within-3.false-raw,
+      le-leb _ _ c.if-o-gt2.false,
+      sym c.number_differs.ensures ∙ not-false _ c.if-not-number_differs.false-raw,
+      le-leb _ _ c.if-t-o.false,
+    )

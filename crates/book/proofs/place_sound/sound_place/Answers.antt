@@ -1,0 +1,27 @@
+-- Open, or free.
+use mathlib.Core.Path.{sym, ap, ◌∙◌}
+use mathlib.Core.Bool.{not}
+use native.Mathlib.Omega.{arith}
+use borrow.Author.Tests.{eq-eqb, ne_eqb, not-true, not-false}
+use Rattle.book.specs.SoundTest.{sound_place}
+use Rattle.book.proofs.place_sound.sound_place.Goals as goal
+
+pub offset_bounds-t-q : goal.offset_bounds-t-q
+offset_bounds-t-q c = record { fits = omega (arith, c.requires.1) }
+
+pub bounds-t-q : goal.bounds-t-q
+bounds-t-q c = c.requires.1
+
+pub returns-then-o-ne0 : goal.returns-then-o-ne0
+unfolding sound_place
+returns-then-o-ne0 c b o = c.sound_open.ensures b o ∙ rw (o.places, ne_eqb _ _ c.if-o-ne0.true)
+
+pub returns-then-not-zero_open : goal.returns-then-not-zero_open
+unfolding sound_place
+returns-then-not-zero_open c b o = rw (o.places, eq-eqb _ _ c.if-o-ne0.false, sym c.zero_open.ensures ∙ not-true _ c.if-not-zero_open.true-raw)
+
+pub returns : goal.returns
+unfolding sound_place
+returns c b o =
+    ap not (c.has.ensures ∙ o.depended c.args.q c.requires.1)
+    ∙ rw (o.places, eq-eqb _ _ c.if-o-ne0.false, sym c.zero_open.ensures ∙ not-false _ c.if-not-zero_open.false-raw)

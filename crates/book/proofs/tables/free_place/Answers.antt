@@ -1,0 +1,24 @@
+use native.Mathlib.Omega.{arith}
+use borrow.Author.Count.{below_more}
+use Rattle.conditions.specs.Places.{places as width}
+use Rattle.conditions.proofs.Laws.Below.{is-first}
+use borrow.Author.Tests.{eq-eqb, ne_eqb}
+use Rattle.book.proofs.tables.free_place.Goals as goal
+
+pub loop-q-init : goal.loop-q-init
+loop-q-init c = (omega arith, (λ j h. absurd (omega arith)))
+
+pub bounds-places-q : goal.bounds-places-q
+bounds-places-q c = omega arith
+
+pub returns-then-o-eq0 : goal.returns-then-o-eq0
+returns-then-o-eq0 c = is-first width _ c.loop-q.q (omega arith) c.loop-q.invariant.1 (λ h. rw (eq-eqb _ 0 c.if-o-eq0.true))
+
+pub loop-q-smaller : goal.loop-q-smaller
+loop-q-smaller c = omega arith
+
+pub loop-q-preserved : goal.loop-q-preserved
+loop-q-preserved c = (omega arith, below_more _ _ c.loop-q.invariant.1 (rw (ne_eqb _ 0 c.if-o-eq0.false)))
+
+pub returns : goal.returns
+returns c = is-first width _ c.loop-q.q (omega arith) c.loop-q.invariant.1 (λ h. absurd (omega arith))
