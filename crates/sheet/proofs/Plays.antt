@@ -8,7 +8,7 @@ use lib.ListN.{length, replicate}
 use borrow.Author.Tests.{le-leb, lt-leb, eq-eqb, ne_eqb}
 use Rattle.conditions.specs.declared.text.Written.TheVariants.{To, NoRoom}
 use Rattle.conditions.specs.Text.{bytes}
-use Rattle.conditions.specs.Written.{written, Put}
+use Rattle.conditions.specs.Written.{Put}
 use Rattle.book.specs.declared.Answer.{Answer}
 use Rattle.book.specs.declared.Answer.TheVariants.{Accepted}
 use Rattle.book.specs.declared.Book.{Book}

@@ -7,7 +7,7 @@ use crate::readers::{byte, byte_between, part, word};
 use conditions::TransactionNumber;
 
 // An event. The bytes of a begin's program stand in the sheet from `from` up to `to`.
-#[derive(Drop)]
+#[derive(Clone, Copy)]
 pub enum Event {
     Begin {
         from: usize,
@@ -37,7 +37,7 @@ pub enum Event {
 }
 
 // What stands at a place: an event, with the place behind it, or none, with the place that is wrong.
-#[derive(Drop)]
+#[derive(Clone, Copy)]
 pub enum EventAt {
     Read { event: Event, next: usize },
     Wrong(usize),

@@ -2,6 +2,8 @@
 //
 // Every public function is proved to return what its definition in `specs/` says, for every argument:
 // any bytes and any place may be handed in. No public function has a `requires`, and nothing is assumed.
+#![tactic(auto)]
+
 mod events;
 mod lines;
 mod opening;

@@ -11,7 +11,7 @@ pub const MOST_BYTES: usize = 32768;
 
 // Whether the sheet opened its book, and the place that 13 or 14 gives; the book; where the first
 // event stands, and how many there are. Refused, the book is all zero, and so are the numbers.
-#[derive(Drop)]
+#[derive(Clone, Copy)]
 pub struct Opened {
     pub answer: Answer,
     pub place: usize,

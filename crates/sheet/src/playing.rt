@@ -12,7 +12,7 @@ use conditions::Written;
 
 // What playing an event gives: where its line ends, and the book that the next event takes. Where the
 // buffer is too short, nothing was played.
-#[derive(Drop)]
+#[derive(Clone, Copy)]
 pub struct Played {
     pub written: Written,
     pub book: Book,

@@ -8,7 +8,7 @@ use polyvalues::{in_range, of_bytes};
 
 // A number that was read: whether nothing is wrong, the place behind it or the wrong place, and the
 // number.
-#[derive(Drop)]
+#[derive(Clone, Copy)]
 pub(crate) struct Number {
     pub(crate) good: bool,
     pub(crate) place: usize,
@@ -16,7 +16,7 @@ pub(crate) struct Number {
 }
 
 // A value that was read.
-#[derive(Drop)]
+#[derive(Clone, Copy)]
 pub(crate) struct ValueRead {
     pub(crate) good: bool,
     pub(crate) place: usize,

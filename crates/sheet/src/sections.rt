@@ -13,7 +13,7 @@ use crate::readers::{Number, byte, byte_between, value, word};
 use book::{DISTRICTS, ITEMS, Opening, Openings};
 
 // An item that was read.
-#[derive(Drop)]
+#[derive(Clone, Copy)]
 struct ItemAt {
     good: bool,
     place: usize,
@@ -21,7 +21,7 @@ struct ItemAt {
 }
 
 // The items that were read.
-#[derive(Drop)]
+#[derive(Clone, Copy)]
 pub(crate) struct ItemsRead {
     pub(crate) good: bool,
     pub(crate) place: usize,
@@ -29,7 +29,7 @@ pub(crate) struct ItemsRead {
 }
 
 // The events that were read: where the first stands, and how many there are.
-#[derive(Drop)]
+#[derive(Clone, Copy)]
 pub(crate) struct EventsRead {
     pub(crate) good: bool,
     pub(crate) place: usize,
