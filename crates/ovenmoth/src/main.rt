@@ -3,12 +3,18 @@
 // What is printed is the sheet crate's; this only moves bytes. Lines wait in a buffer until there is
 // no room in it for another, so that a line costs no system call. Where the output is closed or
 // fails, it stops without a word.
+#![tactic(auto)]
+
 ghost use Rattle.std.specs.Prelude.{◌≤◌, length};
 
 use book::Answer;
 use conditions::Written;
-use libc::{STDIN_FILENO, STDOUT_FILENO};
 use sheet::{EventAt, LONGEST_LINE, MOST_BYTES, Opened, event_at, open, play, write_refusal};
+
+// Standard input and standard output, as the system numbers them.
+const STDIN: i32 = 0;
+
+const STDOUT: i32 = 1;
 
 // Makes room for a line behind the bytes that wait, and answers where it may stand. Where the output
 // took nothing that is the buffer's end, which has room for none.
@@ -20,7 +26,7 @@ fn room(out: &[u8], waiting: usize) -> usize
     if LONGEST_LINE <= n - waiting {
         return waiting;
     }
-    if io::write_all(STDOUT_FILENO, &out[..waiting]) {
+    if io::write_all(STDOUT, &out[..waiting]) {
         return 0;
     }
     n
@@ -52,8 +58,8 @@ fn play_all(opened: Opened, sheet: &[u8], out: &mut [u8]) {
         book = played.book;
         at = next;
     }
-    if io::write_all(STDOUT_FILENO, &out[..waiting]) {
-        io::write_all(STDOUT_FILENO, b"end\n");
+    if io::write_all(STDOUT, &out[..waiting]) {
+        io::write_all(STDOUT, b"end\n");
     }
 }
 
@@ -63,7 +69,7 @@ fn refuse(answer: Answer, place: usize, out: &mut [u8]) {
         return;
     };
     if end <= out.len() {
-        io::write_all(STDOUT_FILENO, &out[..end]);
+        io::write_all(STDOUT, &out[..end]);
     }
 }
 
@@ -80,7 +86,7 @@ fn print(sheet: &[u8], out: &mut [u8]) {
 
 fn main() {
     let mut input = [0u8; MOST_BYTES + 1];
-    let n = io::read_full(STDIN_FILENO, &mut input);
+    let n = io::read_full(STDIN, &mut input);
     let mut out = [0u8; 2 * LONGEST_LINE];
     print(&input[..n], &mut out);
 }

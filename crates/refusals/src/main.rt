@@ -2,6 +2,8 @@
 //
 // A sheet cannot hand in a book that is not sound (15) or a short buffer (16), nor come to the last
 // number (7), nor ask a list of pairs (2). What stands in `stdout` is what must come out.
+#![tactic(auto)]
+
 mod asked;
 mod damage;
 mod morning;
