@@ -1,7 +1,7 @@
 // Whether the districts of a book are sound: what a record says agrees with its transaction.
 ghost use Rattle.std.specs.Prelude.{◌≡◌, cond, ℕ, ◌<◌, ltb};
 ghost use Rattle.conditions.specs.Below.{all};
-ghost use Rattle.conditions.specs.Places.{places as Places·places};
+ghost use Rattle.conditions.specs.Places.{places as place_count};
 ghost use Rattle.book.specs.declared.Book.{Book};
 ghost use Rattle.book.specs.Book.{most_districts};
 ghost use Rattle.book.specs.Tables.{TablesOf};
@@ -25,7 +25,7 @@ fn zero_record(x: Record) -> bool
 // Whether the open transaction touches the busy district: a waiting one is ready, a computing one in
 // neither set.
 fn sound_busy(d: usize, o: Open, is_waiting: bool) -> bool
-    ensures { (q : ℕ) → q < Places·places → result ≡ sound_busy Places·places d q o is_waiting }
+    ensures { (q : ℕ) → q < place_count → result ≡ sound_busy place_count d q o is_waiting }
 {
     if !has(o.touched, d) {
         return false;
@@ -41,7 +41,7 @@ fn sound_busy(d: usize, o: Open, is_waiting: bool) -> bool
 
 // Whether the record of a district below the count is sound.
 fn sound_record(places: [Open; PLACES], d: usize, x: Record) -> bool
-    ensures { (b : Book) → b.«open» ≡ places → result ≡ sound_record Places·places b d x }
+    ensures { (b : Book) → b.«open» ≡ places → result ≡ sound_record place_count b d x }
 {
     if 2 < x.phase {
         return false;
@@ -60,7 +60,7 @@ fn sound_record(places: [Open; PLACES], d: usize, x: Record) -> bool
 
 // Whether a row of the districts is sound.
 fn sound_district(places: [Open; PLACES], districts: usize, d: usize, x: Record) -> bool
-    ensures { (b : Book) → b.«open» ≡ places → result ≡ cond (ltb d districts) (sound_record Places·places b d x) (zero_record x) }
+    ensures { (b : Book) → b.«open» ≡ places → result ≡ cond (ltb d districts) (sound_record place_count b d x) (zero_record x) }
 {
     if d < districts {
         return sound_record(places, d, x);
@@ -70,7 +70,7 @@ fn sound_district(places: [Open; PLACES], districts: usize, d: usize, x: Record)
 
 // Whether each of them is.
 pub(crate) fn sound_districts(t: Tables) -> bool
-    ensures { (b : Book) → TablesOf Places·places b t → result ≡ all most_districts (sound_district Places·places b) }
+    ensures { (b : Book) → TablesOf place_count b t → result ≡ all most_districts (sound_district place_count b) }
 {
     let places = t.open;
     let mut d: usize = 0;

@@ -1,6 +1,6 @@
 // Forgetting, at the end of each accepted event.
 ghost use Rattle.std.specs.Prelude.{◌≡◌, ◌<◌, ◌≤◌};
-ghost use Rattle.conditions.specs.Places.{places as Places·places};
+ghost use Rattle.conditions.specs.Places.{places as place_count};
 ghost use Rattle.book.specs.declared.Book.{Book};
 ghost use Rattle.book.specs.Book.{most_districts, most_items};
 ghost use Rattle.book.specs.Rows.{rows};
@@ -15,8 +15,8 @@ use conditions::PLACES;
 // Whether the transaction at a place stays: it is not decided, or has a district on it or a polyvalue
 // that depends on it.
 pub(crate) fn is_kept(t: Tables, q: usize, o: Open) -> bool
-    requires { (t.districts ≤ most_districts) × (q < Places·places) }
-    ensures { (b : Book) → TablesOf Places·places b t → result ≡ kept Places·places b q o }
+    requires { (t.districts ≤ most_districts) × (q < place_count) }
+    ensures { (b : Book) → TablesOf place_count b t → result ≡ kept place_count b q o }
 {
     if o.decision == 0 {
         return true;
@@ -30,8 +30,8 @@ pub(crate) fn is_kept(t: Tables, q: usize, o: Open) -> bool
 
 // What a place holds afterwards: a transaction that does not stay is closed.
 fn remembered(t: Tables, q: usize, o: Open) -> Open
-    requires { (t.districts ≤ most_districts) × (q < Places·places) }
-    ensures { (b : Book) → TablesOf Places·places b t → result ≡ remembered Places·places b q o }
+    requires { (t.districts ≤ most_districts) × (q < place_count) }
+    ensures { (b : Book) → TablesOf place_count b t → result ≡ remembered place_count b q o }
 {
     if is_kept(t, q, o) {
         return o;
@@ -42,7 +42,7 @@ fn remembered(t: Tables, q: usize, o: Open) -> Open
 // Each place so.
 fn remembered_places(t: Tables) -> [Open; PLACES]
     requires { t.districts ≤ most_districts }
-    ensures { (b : Book) → TablesOf Places·places b t → result ≡ rows (remembered Places·places b) Places·places t.«open» }
+    ensures { (b : Book) → TablesOf place_count b t → result ≡ rows (remembered place_count b) place_count t.«open» }
 {
     let mut places = t.open;
     let mut q: usize = 0;
@@ -58,7 +58,7 @@ fn remembered_places(t: Tables) -> [Open; PLACES]
 // The book with each such place freed.
 pub(crate) fn forget(mut b: Book) -> Book
     requires { (b.districts ≤ most_districts) × (b.count ≤ most_items) }
-    ensures { result ≡ forget Places·places b }
+    ensures { result ≡ forget place_count b }
 {
     let count = b.count;
     let mut depended: u8 = 0;

@@ -1,7 +1,7 @@
 // Whether an item of a book is sound: its polyvalues, and what it depends on.
 ghost use Rattle.std.specs.Prelude.{◌≡◌, not, ◌&&◌, leb};
 ghost use Rattle.conditions.specs.Sets.{set_of};
-ghost use Rattle.conditions.specs.Places.{places as Places·places};
+ghost use Rattle.conditions.specs.Places.{places as place_count};
 ghost use Rattle.polyvalues.specs.Polyvalues.{most_pairs, in_use, sound as sound_polyvalue};
 ghost use Rattle.polyvalues.specs.Operations.{together};
 ghost use Rattle.book.specs.declared.Book.{Book};
@@ -44,7 +44,7 @@ pub(crate) fn zero_row(x: Item) -> bool
 // Whether an item of an idle district is sound: pending equals held, and so one look at held tells of
 // both.
 fn sound_idle(x: Item) -> bool
-    ensures { result ≡ (sound_polyvalue Places·places x.held && same_polyvalue x.pending x.held) }
+    ensures { result ≡ (sound_polyvalue place_count x.held && same_polyvalue x.pending x.held) }
 {
     if !x.held.is_sound() {
         return false;
@@ -55,7 +55,7 @@ fn sound_idle(x: Item) -> bool
 // Whether an item of a district that is on the transaction number n is sound: that transaction's place
 // is none of those that it depends on, its places.
 fn sound_taken(places: [Open; PLACES], n: u16, x: Item, its: u8) -> bool
-    ensures { (b : Book) → b.«open» ≡ places → its ≡ set_of Places·places (item_depends Places·places x) → result ≡ (sound_polyvalue Places·places x.held && sound_polyvalue Places·places x.pending && not (item_depends Places·places x (place_of Places·places b n)) && leb (together (in_use x.held) (in_use x.pending)) most_pairs) }
+    ensures { (b : Book) → b.«open» ≡ places → its ≡ set_of place_count (item_depends place_count x) → result ≡ (sound_polyvalue place_count x.held && sound_polyvalue place_count x.pending && not (item_depends place_count x (place_of place_count b n)) && leb (together (in_use x.held) (in_use x.pending)) most_pairs) }
 {
     if !x.held.is_sound() {
         return false;
@@ -78,7 +78,7 @@ pub(crate) fn sound_row(
     x: Item,
     its: u8,
 ) -> bool
-    ensures { (b : Book) → b.records ≡ records → b.«open» ≡ places → b.districts ≡ districts → its ≡ set_of Places·places (item_depends Places·places x) → result ≡ sound_row Places·places b x }
+    ensures { (b : Book) → b.records ≡ records → b.«open» ≡ places → b.districts ≡ districts → its ≡ set_of place_count (item_depends place_count x) → result ≡ sound_row place_count b x }
 {
     let district = x.district;
     if districts <= district as usize {

@@ -1,7 +1,7 @@
 // Whether the places of a book are sound: each holds an open transaction or zeros.
 ghost use Rattle.std.specs.Prelude.{◌≡◌, not, ◌<◌, ◌≤◌, ◌^◌, eqb, ltb, get_or};
 ghost use Rattle.conditions.specs.Below.{all};
-ghost use Rattle.conditions.specs.Places.{places as Places·places};
+ghost use Rattle.conditions.specs.Places.{places as place_count};
 ghost use Rattle.book.specs.declared.Book.{Book};
 ghost use Rattle.book.specs.Book.{most_districts, no_open};
 ghost use Rattle.book.specs.Tables.{TablesOf};
@@ -75,7 +75,7 @@ fn sound_sets(o: Open, districts: usize) -> bool
 
 // Whether no place before q has the number.
 fn number_differs(places: [Open; PLACES], q: usize, n: TransactionNumber) -> bool
-    requires { q ≤ Places·places }
+    requires { q ≤ place_count }
     ensures { result ≡ all q (λ p. not (eqb (get_or places p no_open).number.0 n.0)) }
 {
     let mut p: usize = 0;
@@ -91,8 +91,8 @@ fn number_differs(places: [Open; PLACES], q: usize, n: TransactionNumber) -> boo
 
 // Whether the open transaction at a place is sound.
 fn sound_open(t: Tables, q: usize, o: Open) -> bool
-    requires { (t.districts ≤ most_districts) × (q < Places·places) }
-    ensures { (b : Book) → TablesOf Places·places b t → result ≡ sound_open Places·places b q o }
+    requires { (t.districts ≤ most_districts) × (q < place_count) }
+    ensures { (b : Book) → TablesOf place_count b t → result ≡ sound_open place_count b q o }
 {
     let districts = t.districts;
     if !is_within(o.touched, districts) {
@@ -122,8 +122,8 @@ fn sound_open(t: Tables, q: usize, o: Open) -> bool
 
 // Whether a place is sound.
 fn sound_place(t: Tables, q: usize) -> bool
-    requires { (t.districts ≤ most_districts) × (q < Places·places) }
-    ensures { (b : Book) → TablesOf Places·places b t → result ≡ sound_place Places·places b q }
+    requires { (t.districts ≤ most_districts) × (q < place_count) }
+    ensures { (b : Book) → TablesOf place_count b t → result ≡ sound_place place_count b q }
 {
     let o = t.open[q];
     if o.number.0 != 0 {
@@ -138,7 +138,7 @@ fn sound_place(t: Tables, q: usize) -> bool
 // Whether each of them is.
 pub(crate) fn sound_places(t: Tables) -> bool
     requires { t.districts ≤ most_districts }
-    ensures { (b : Book) → TablesOf Places·places b t → result ≡ all Places·places (sound_place Places·places b) }
+    ensures { (b : Book) → TablesOf place_count b t → result ≡ all place_count (sound_place place_count b) }
 {
     let mut q: usize = 0;
     while q < PLACES {

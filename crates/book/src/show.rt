@@ -1,6 +1,6 @@
 // Show: the line of an item's held pairs, written into a lent buffer.
 ghost use Rattle.std.specs.Prelude.{◌≡◌, map};
-ghost use Rattle.conditions.specs.Places.{places as Places·places};
+ghost use Rattle.conditions.specs.Places.{places as place_count};
 ghost use Rattle.conditions.specs.Written.{written};
 ghost use Rattle.book.specs.Show.{line_of, line_shown, shown, show};
 
@@ -26,8 +26,8 @@ fn numbers_at(places: [Open; PLACES]) -> [TransactionNumber; PLACES]
 
 // Writes the line of a polyvalue, where these transactions are open.
 fn write_held(held: Polyvalue, open: [Open; PLACES], buf: &mut [u8]) -> Shown
-    ensures value { result ≡ line_shown buf.old (line_of Places·places held «open») }
-    ensures buf_after { buf.new ≡ written buf.old 0 (line_of Places·places held «open») }
+    ensures value { result ≡ line_shown buf.old (line_of place_count held «open») }
+    ensures buf_after { buf.new ≡ written buf.old 0 (line_of place_count held «open») }
 {
     let numbers = numbers_at(open);
     match held.write_text(numbers, buf, 0) {
@@ -45,8 +45,8 @@ fn write_held(held: Polyvalue, open: [Open; PLACES], buf: &mut [u8]) -> Shown
 impl Book {
     // The call: the line of an item's held pairs is written at the buffer's start.
     pub fn show(self, item: u8, buf: &mut [u8]) -> Shown
-        ensures value { result ≡ show Places·places self item buf.old }
-        ensures buf_after { buf.new ≡ shown Places·places self item buf.old }
+        ensures value { result ≡ show place_count self item buf.old }
+        ensures buf_after { buf.new ≡ shown place_count self item buf.old }
     {
         if !self.is_sound() {
             return Shown {

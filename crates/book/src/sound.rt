@@ -1,6 +1,6 @@
 // Whether a book that is handed in is sound: the paragraph of document 01, row by row.
 ghost use Rattle.std.specs.Prelude.{◌≡◌};
-ghost use Rattle.conditions.specs.Places.{places as Places·places};
+ghost use Rattle.conditions.specs.Places.{places as place_count};
 ghost use Rattle.book.specs.Book.{good_counts};
 ghost use Rattle.book.specs.SoundTest.{sound};
 
@@ -30,7 +30,7 @@ impl Book {
     // Whether the book is sound: the counts, then every row. It walks the items itself, since a book
     // that is handed on is copied.
     pub fn is_sound(self) -> bool
-        ensures { result ≡ sound Places·places self }
+        ensures { result ≡ sound place_count self }
     {
         let count = self.count;
         let districts = self.districts;

@@ -1,7 +1,7 @@
 // What one reads off the tables of a book.
 ghost use Rattle.std.specs.Prelude.{◌≡◌, true, false, not, ℕ, ◌≤◌, eqb, get_or};
 ghost use Rattle.conditions.specs.Below.{any, first};
-ghost use Rattle.conditions.specs.Places.{places as Places·places};
+ghost use Rattle.conditions.specs.Places.{places as place_count};
 ghost use Rattle.conditions.specs.Sets.{set_of};
 ghost use Rattle.polyvalues.specs.Pairs.{depends};
 ghost use Rattle.polyvalues.specs.Polyvalues.{in_use};
@@ -94,7 +94,7 @@ fn is_named(o: Open, n: TransactionNumber) -> bool
 
 // The place of the open transaction with the number, or the number of places where none has it.
 pub(crate) fn place_of(places: [Open; PLACES], n: TransactionNumber) -> usize
-    ensures { result ≡ first Places·places (λ q. named n.0 (get_or places q no_open)) }
+    ensures { result ≡ first place_count (λ q. named n.0 (get_or places q no_open)) }
 {
     let mut q: usize = 0;
     while q < PLACES {
@@ -109,7 +109,7 @@ pub(crate) fn place_of(places: [Open; PLACES], n: TransactionNumber) -> usize
 
 // The lowest free place, or the number of places where none is free.
 pub(crate) fn free_place(places: [Open; PLACES]) -> usize
-    ensures { result ≡ first Places·places (λ q. not (is_open (get_or places q no_open))) }
+    ensures { result ≡ first place_count (λ q. not (is_open (get_or places q no_open))) }
 {
     let mut q: usize = 0;
     while q < PLACES {
@@ -124,7 +124,7 @@ pub(crate) fn free_place(places: [Open; PLACES]) -> usize
 
 // Whether the item's held or pending polyvalue depends on the place.
 pub(crate) fn item_depends(x: Item, q: Place) -> bool
-    ensures { result ≡ item_depends Places·places x q.0 }
+    ensures { result ≡ item_depends place_count x q.0 }
 {
     if x.held.depends(q) {
         return true;
@@ -134,7 +134,7 @@ pub(crate) fn item_depends(x: Item, q: Place) -> bool
 
 // Whether it is one pair that always applies: such a polyvalue depends on no place.
 fn is_certain(p: Polyvalue) -> bool
-    ensures { result ≡ true → (q : ℕ) → depends Places·places (in_use p) q ≡ false }
+    ensures { result ≡ true → (q : ℕ) → depends place_count (in_use p) q ≡ false }
 {
     if p.count != 1 {
         return false;
@@ -145,7 +145,7 @@ fn is_certain(p: Polyvalue) -> bool
 
 // Whether both of the item's are.
 fn is_sure(x: Item) -> bool
-    ensures { result ≡ true → (q : ℕ) → item_depends Places·places x q ≡ false }
+    ensures { result ≡ true → (q : ℕ) → item_depends place_count x q ≡ false }
 {
     let held = x.held;
     if !is_certain(held) {
@@ -157,7 +157,7 @@ fn is_sure(x: Item) -> bool
 
 // The set of the places that the item depends on.
 pub(crate) fn places_of(x: Item) -> u8
-    ensures { result ≡ set_of Places·places (item_depends Places·places x) }
+    ensures { result ≡ set_of place_count (item_depends place_count x) }
 {
     if is_sure(x) {
         return 0;

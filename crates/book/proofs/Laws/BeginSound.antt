@@ -31,7 +31,7 @@ use Rattle.book.specs.Records.{begin_record}
 use Rattle.book.specs.Items.{becomes}
 use Rattle.book.specs.Begin.{bad_step, outside, held_at, results, some_busy, too_many, touches_district, begin_item, new_row, begun}
 use Rattle.book.specs.Sound.{Sound}
-use Rattle.book.proofs.Laws.Rows.{length-rows, get_d_rows, past-rows, each_row, get_d_set}
+use Rattle.book.proofs.Laws.Rows.{length-rows, get_or-rows, past-rows, each_row, get_or-set}
 use Rattle.book.proofs.Laws.Programs.{run-reads, run-range}
 use Rattle.book.proofs.Laws.Touched.{touched-below, touched-idle}
 use Rattle.book.proofs.Laws.Sound.{place-named}
@@ -74,11 +74,11 @@ module _ (w : ℕ) (b : Book) (sound : Sound w b) (t : Shaped w b) (xs : List St
   pub begin-records : (e : ℕ) → e < b.districts → record_at (begun w b xs) e ≡ cond (touches_district b xs e) (begin_record (suc b.last.0)) (record_at b e)
   unfolding begun
   begin-records e h =
-      get_d_rows (λ d r. cond (touches_district b xs d) (begin_record n) r) no_record b.districts b.records e h (omega (arith, sound.few_districts, t.records))
+      get_or-rows (λ d r. cond (touches_district b xs d) (begin_record n) r) no_record b.districts b.records e h (omega (arith, sound.few_districts, t.records))
 
   pub begin-opens : (m : ℕ) → open_at (begun w b xs) m ≡ cond (eqb m (free_place w b)) (new_row b xs) (open_at b m)
   unfolding begun
-  begin-opens m = get_d_set b.«open» q new no_open m (omega (arith, f.place, t.places))
+  begin-opens m = get_or-set b.«open» q new no_open m (omega (arith, f.place, t.places))
 
   here : (m : ℕ) → eqb m q ≡ true → open_at c m ≡ new
   here m e = begin-opens m ∙ rw e

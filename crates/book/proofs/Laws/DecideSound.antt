@@ -11,7 +11,7 @@ use Rattle.book.specs.declared.Book.{Book}
 use Rattle.book.specs.Book.{no_open, record_at, open_at, item_on, place_of, open_of}
 use Rattle.book.specs.Decide.{with_decision, decide}
 use Rattle.book.specs.Shaped.{Shaped}
-use Rattle.book.proofs.Laws.Rows.{get_d_set}
+use Rattle.book.proofs.Laws.Rows.{get_or-set}
 use Rattle.book.proofs.Laws.But.{OpenRow, SoundBut, Seen, seen_at, district-stays, place-open}
 use Rattle.book.proofs.Laws.Changing.{change-but}
 
@@ -33,7 +33,7 @@ module _ (w : ℕ) (b : Book) (s : SoundBut w b) (t : Shaped w b) (n : ℕ) (p :
   -- the places afterwards
   pub decide-opens : (v m : ℕ) → open_at (decide w b n v) m ≡ cond (eqb m (place_of w b n)) (with_decision v (open_of w b n)) (open_at b m)
   unfolding decide
-  decide-opens v m = get_d_set b.«open» q (with_decision v o) no_open m (omega (arith, t.places))
+  decide-opens v m = get_or-set b.«open» q (with_decision v o) no_open m (omega (arith, t.places))
 
   -- "a completed transaction has every touched district ready"
   pub decide-but : (v : ℕ) → v ≤ 2 → (v ≡ 1 → (d : ℕ) → d < b.districts → member o.touched d ≡ true → member o.ready d ≡ true) → SoundBut w (decide w b n v)

@@ -12,7 +12,7 @@ use Rattle.book.specs.declared.Book.{Book}
 use Rattle.book.specs.Book.{no_open, record_at, item_at, open_at, idle, record_on, item_on, is_open, named, place_of, item_depends, some_depends, some_on}
 use Rattle.book.specs.Forget.{decided, needed, kept, remembered, forget}
 use Rattle.book.specs.Sound.{Sound}
-use Rattle.book.proofs.Laws.Rows.{length-rows, get_d_rows}
+use Rattle.book.proofs.Laws.Rows.{length-rows, get_or-rows}
 use Rattle.book.proofs.Laws.Forget.{kept-needed}
 use Rattle.book.proofs.Laws.Sound.{place-named}
 use Rattle.book.specs.Shaped.{Shaped}
@@ -27,7 +27,7 @@ forget-shaped w b t =
 -- the places afterwards
 pub forget-row : (w : ℕ) (b : Book) → Shaped w b → (q : ℕ) → q < w → open_at (forget w b) q ≡ remembered w b q (open_at b q)
 unfolding forget
-forget-row w b t q h = get_d_rows (remembered w b) no_open w b.«open» q h (omega (arith, t.places))
+forget-row w b t q h = get_or-rows (remembered w b) no_open w b.«open» q h (omega (arith, t.places))
 
 module _ (w : ℕ) (b : Book) (s : SoundBut w b) (t : Shaped w b) where
   abbrev c : Book

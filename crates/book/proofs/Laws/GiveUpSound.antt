@@ -18,7 +18,7 @@ use Rattle.book.specs.Records.{computing_on, busy_on}
 use Rattle.book.specs.Items.{there, concerned, drop, split}
 use Rattle.book.specs.GiveUp.{give_up_item, marked, gave_up}
 use Rattle.book.specs.Sound.{Sound}
-use Rattle.book.proofs.Laws.Rows.{length-rows, past-rows, each_row, get_d_set}
+use Rattle.book.proofs.Laws.Rows.{length-rows, past-rows, each_row, get_or-set}
 use Rattle.book.proofs.Laws.Including.{including-other}
 use Rattle.book.specs.Shaped.{ShapedItem, Shaped}
 use Rattle.book.proofs.Laws.Values.{give-up-item}
@@ -54,7 +54,7 @@ module _ (w : ℕ) (b : Book) (sound : Sound w b) (t : Shaped w b) (n d : ℕ) (
   -- the records afterwards, and the places
   pub give-up-records : (e : ℕ) → record_at (gave_up w b n d) e ≡ cond (eqb e d) no_record (record_at b e)
   unfolding gave_up
-  give-up-records e = get_d_set b.records d no_record no_record e (omega (arith, l, sound.few_districts, t.records))
+  give-up-records e = get_or-set b.records d no_record no_record e (omega (arith, l, sound.few_districts, t.records))
 
   -- ---- the transaction
 
@@ -66,7 +66,7 @@ module _ (w : ℕ) (b : Book) (sound : Sound w b) (t : Shaped w b) (n d : ℕ) (
   unfolding gave_up
   give-up-opens m =
       by_cases early
-      (λ e. rw e (get_d_set b.«open» q (marked d o) no_open m (omega (arith, t.places))))
+      (λ e. rw e (get_or-set b.«open» q (marked d o) no_open m (omega (arith, t.places))))
       (λ e. rw e (row-own b q m))
 
   old : OpenRow b.districts b.last.0 o

@@ -15,7 +15,7 @@ use Rattle.book.specs.Records.{busy_on, hear_record}
 use Rattle.book.specs.Items.{there, concerned, install, drop, reduce_item}
 use Rattle.book.specs.Hear.{outcome, hear_item, heard}
 use Rattle.book.specs.Sound.{Sound}
-use Rattle.book.proofs.Laws.Rows.{length-rows, past-rows, each_row, get_d_set}
+use Rattle.book.proofs.Laws.Rows.{length-rows, past-rows, each_row, get_or-set}
 use Rattle.book.specs.Shaped.{ShapedItem, Shaped}
 use Rattle.book.proofs.Laws.Values.{hear-item}
 use Rattle.book.proofs.Laws.But.{DistrictRow, ItemRow, SoundBut, sound-but, idle-district, item-stays, row-own, place-open}
@@ -41,7 +41,7 @@ module _ (w : ℕ) (b : Book) (sound : Sound w b) (t : Shaped w b) (n d : ℕ) (
   -- the records afterwards
   pub hear-records : (e : ℕ) → record_at (heard w b n d) e ≡ cond (eqb e d) (hear_record n (record_at b d)) (record_at b e)
   unfolding heard
-  hear-records e = get_d_set b.records d (hear_record n r) no_record e (omega (arith, l, sound.few_districts, t.records))
+  hear-records e = get_or-set b.records d (hear_record n r) no_record e (omega (arith, l, sound.few_districts, t.records))
 
   -- the record of a district that is not busy on it, also of another one, stays
   left : (e : ℕ) → (eqb e d ≡ true → busy_on n r ≡ false) → record_at c e ≡ record_at b e

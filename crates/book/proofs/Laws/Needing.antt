@@ -26,7 +26,7 @@ use Rattle.book.specs.Ready.{reported, readied}
 use Rattle.book.specs.Decide.{with_decision, decide}
 use Rattle.book.specs.Begin.{some_busy, touches_district, begin_item, begun}
 use Rattle.book.specs.Sound.{Sound}
-use Rattle.book.proofs.Laws.Rows.{get_d_rows, rows-set, get_d_set}
+use Rattle.book.proofs.Laws.Rows.{get_or-rows, rows-set, get_or-set}
 use Rattle.book.proofs.Laws.Touched.{touched-item-idle, touched-idle}
 use Rattle.book.proofs.Laws.But.{computing-on, busy-on}
 use Rattle.book.proofs.Laws.Forget.{kept-needed, needed-kept, remembered-kept, forget-none, decided-open, sound-kept}
@@ -86,7 +86,7 @@ module _ (w : ℕ) (b : Book) (xs : List Step) (s : Sound w b) (idles : some_bus
   old : (q : ℕ) → 1 ≤ (open_at c q).decision → open_at c q ≡ open_at b q
   unfolding begun
   old q e =
-      let row = get_d_set b.«open» (free_place w b) _ no_open q (omega (arith, place, places)) in
+      let row = get_or-set b.«open» (free_place w b) _ no_open q (omega (arith, place, places)) in
       by_cases (eqb q (free_place w b))
       (λ k. absurd (omega (arith, rw (row, k) at e)))
       (λ k. row ∙ rw k)
@@ -96,7 +96,7 @@ module _ (w : ℕ) (b : Book) (xs : List Step) (s : Sound w b) (idles : some_bus
   unfolding some_on begun
   on n h k =
       let some = any_some b.districts (λ d. eqb (record_on (record_at b d)) n) k in
-      let row = get_d_rows (λ d r. cond (touches_district b xs d) (begin_record (suc b.last.0)) r) no_record b.districts b.records some.0 some.1 (omega (arith, records, s.few_districts, some.1)) in
+      let row = get_or-rows (λ d r. cond (touches_district b xs d) (begin_record (suc b.last.0)) r) no_record b.districts b.records some.0 some.1 (omega (arith, records, s.few_districts, some.1)) in
       any_of b.districts (λ d. eqb (record_on (record_at c d)) n) some.0 some.1 (by_cases (touches_district b xs some.0)
       (λ t. absurd (omega (arith, eqb-true (record_on (record_at b some.0)) n some.2, (touched-idle b xs s.belongs idles some.0 t).1)))
       (λ t. rw (row, t) some.2))
@@ -108,7 +108,7 @@ module _ (w : ℕ) (b : Book) (xs : List Step) (s : Sound w b) (idles : some_bus
       let some = any_some b.count (λ i. item_depends w (item_at b i) q) k in
       let i : ℕ = some.0 in
       let x : Item = item_at b i in
-      let row = get_d_rows (begin_item w b xs) void_item b.count b.items i some.1 (omega (arith, items, s.few_items, some.1)) in
+      let row = get_or-rows (begin_item w b xs) void_item b.count b.items i some.1 (omega (arith, items, s.few_items, some.1)) in
       any_of b.count (λ i. item_depends w (item_at c i) q) i some.1 (by_cases (touches xs i)
       (λ t. held-depends w x (item_at c i) q (s.idle_same i some.1 (touched-item-idle b xs idles i some.1 t)) (ap (λ (y : Item). y.held) row ∙ rw t) some.2)
       (λ t. rw (row, t) some.2))

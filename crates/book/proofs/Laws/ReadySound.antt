@@ -18,7 +18,7 @@ use Rattle.book.specs.Records.{computing_on, ready_record}
 use Rattle.book.specs.Ready.{reported, readied}
 use Rattle.book.proofs.Laws.Including.{including-other}
 use Rattle.book.specs.Shaped.{Shaped}
-use Rattle.book.proofs.Laws.Rows.{get_d_set}
+use Rattle.book.proofs.Laws.Rows.{get_or-set}
 use Rattle.book.proofs.Laws.But.{DistrictRow, OpenRow, SoundBut, Seen, seen_at, district-stays, item-stays, place-open, computing-on}
 use Rattle.book.proofs.Laws.Changing.{change-but}
 
@@ -57,11 +57,11 @@ module _ (w : ℕ) (b : Book) (s : SoundBut w b) (t : Shaped w b) (n d : ℕ) (p
   -- the records afterwards, and the places
   pub ready-records : (e : ℕ) → record_at (readied w b n d) e ≡ cond (eqb e d) (ready_record (record_at b d)) (record_at b e)
   unfolding readied
-  ready-records e = get_d_set b.records d (ready_record r) no_record e (omega (arith, l, s.few_districts, t.records))
+  ready-records e = get_or-set b.records d (ready_record r) no_record e (omega (arith, l, s.few_districts, t.records))
 
   pub ready-opens : (m : ℕ) → open_at (readied w b n d) m ≡ cond (eqb m (place_of w b n)) (reported d (open_of w b n)) (open_at b m)
   unfolding readied
-  ready-opens m = get_d_set b.«open» q (reported d o) no_open m (omega (arith, t.places))
+  ready-opens m = get_or-set b.«open» q (reported d o) no_open m (omega (arith, t.places))
 
   -- the row of the transaction
   old : OpenRow b.districts b.last.0 o

@@ -70,8 +70,8 @@ module _ {A : Type 0} (f : ℕ → A → A) (z : A) where
   length-rows n xs = length_from 0 n xs
 
   -- a row below n
-  pub get_d_rows : (n : ℕ) (xs : List A) (i : ℕ) → i < n → i < length xs → get_or (rows f n xs) i z ≡ f i (get_or xs i z)
-  get_d_rows n xs i h l = get_or-from 0 n xs i h l ∙ here i (get_or xs i z)
+  pub get_or-rows : (n : ℕ) (xs : List A) (i : ℕ) → i < n → i < length xs → get_or (rows f n xs) i z ≡ f i (get_or xs i z)
+  get_or-rows n xs i h l = get_or-from 0 n xs i h l ∙ here i (get_or xs i z)
 
   -- a row from n on
   pub past-rows : (n : ℕ) (xs : List A) (i : ℕ) → n ≤ i → get_or (rows f n xs) i z ≡ get_or xs i z
@@ -82,7 +82,7 @@ module _ {A : Type 0} (f : ℕ → A → A) (z : A) where
       → ((i : ℕ) → i < n → P (f i (get_or xs i z))) → (i : ℕ) → i < m → P (get_or (rows f n xs) i z)
   each_row P n m xs l each changed i h =
       by_cases (ltb i n)
-      (λ k. rw (get_d_rows n xs i (ltb-true i n k) (omega arith)) (changed i (ltb-true i n k)))
+      (λ k. rw (get_or-rows n xs i (ltb-true i n k) (omega arith)) (changed i (ltb-true i n k)))
       (λ k. rw (past-rows n xs i (ltb-false i n k)) (each i h))
 
   -- one turn of a loop
@@ -109,8 +109,8 @@ padded-row f xs n z y i l h =
     ap (λ (m : ℕ). get_or (map f xs ++ replicate n z) m y) e ∙ get_or-append-add (map f xs) (replicate n z) (i - length xs) y ∙ get_or-replicate n (i - length xs) z y (omega arith)
 
 -- a row after one row is set
-pub get_d_set : {A : Type 0} (xs : List A) (i : ℕ) (x z : A) (j : ℕ) → i < length xs → get_or (set xs i x) j z ≡ cond (eqb j i) x (get_or xs j z)
-get_d_set xs i x z j h =
+pub get_or-set : {A : Type 0} (xs : List A) (i : ℕ) (x z : A) (j : ℕ) → i < length xs → get_or (set xs i x) j z ≡ cond (eqb j i) x (get_or xs j z)
+get_or-set xs i x z j h =
     by_cases (eqb j i)
     (λ e. rw (e, eqb-true j i e) (get_or-set_same xs i x z h))
     (λ e. rw e (get_or-set_other xs i j x z (eqb-false j i e)))

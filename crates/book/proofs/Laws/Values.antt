@@ -30,7 +30,7 @@ use Rattle.book.specs.Begin.{held_at, results, begin_item, begun}
 use Rattle.book.specs.GiveUp.{give_up_item, gave_up}
 use Rattle.book.specs.Hear.{outcome, hear_item, heard}
 use Rattle.book.specs.Sound.{Sound}
-use Rattle.book.proofs.Laws.Rows.{get_d_rows}
+use Rattle.book.proofs.Laws.Rows.{get_or-rows}
 use Rattle.book.specs.Shaped.{Shaped}
 
 -- the value of a polyvalue under an assignment
@@ -72,7 +72,7 @@ module _ (w : ℕ) (b : Book) (s : Sound w b) (t : Shaped w b) where
 
   pub begin-item : (xs : List Step) (i : ℕ) → i < b.count → item_at (begun w b xs) i ≡ begin_item w b xs i (item_at b i)
   unfolding begun
-  begin-item xs i h = get_d_rows (begin_item w b xs) void_item b.count b.items i h (inside i h)
+  begin-item xs i h = get_or-rows (begin_item w b xs) void_item b.count b.items i h (inside i h)
 
   pub begin-held : (xs : List Step) (i : ℕ) → i < b.count → (item_at (begun w b xs) i).held ≡ (item_at b i).held
   unfolding begin_item
@@ -92,7 +92,7 @@ module _ (w : ℕ) (b : Book) (s : Sound w b) (t : Shaped w b) where
 
   pub give-up-item : (n d i : ℕ) → i < b.count → item_at (gave_up w b n d) i ≡ give_up_item w b n d (place_of w b n) (computing_on n (record_at b d)) (item_at b i)
   unfolding gave_up
-  give-up-item n d i h = get_d_rows (λ i x. give_up_item w b n d (place_of w b n) (computing_on n (record_at b d)) x) void_item b.count b.items i h (inside i h)
+  give-up-item n d i h = get_or-rows (λ i x. give_up_item w b n d (place_of w b n) (computing_on n (record_at b d)) x) void_item b.count b.items i h (inside i h)
 
   split_at : (q i : ℕ) → i < b.count → (a : ℕ) → a < 2 ^ w → value_under (split w q (item_at b i)).held a ≡ cond (member a q) (value_under (item_at b i).pending a) (value_under (item_at b i).held a)
   unfolding split
@@ -125,7 +125,7 @@ module _ (w : ℕ) (b : Book) (s : Sound w b) (t : Shaped w b) where
 
   pub hear-item : (n d i : ℕ) → i < b.count → item_at (heard w b n d) i ≡ hear_item w b n d (place_of w b n) (outcome (open_of w b n)) (item_at b i)
   unfolding heard
-  hear-item n d i h = get_d_rows (λ i x. hear_item w b n d (place_of w b n) (outcome (open_of w b n)) x) void_item b.count b.items i h (inside i h)
+  hear-item n d i h = get_or-rows (λ i x. hear_item w b n d (place_of w b n) (outcome (open_of w b n)) x) void_item b.count b.items i h (inside i h)
 
   -- "If it is busy on that transaction it installs pending (completed) or drops it (aborted) .. Then every held and pending polyvalue there is reduced": f is the one or the other
   abbrev pub HearValue : (Item → Polyvalue) → Type 0
