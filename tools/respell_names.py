@@ -5,8 +5,8 @@ usage: python3 tools/respell_names.py            at the top of the repository, o
        python3 tools/respell_names.py --list     prints each name, old and new, and the names that would fall together; changes nothing
 
 A name such as `setOf` becomes `set_of`, and `setOf-lt` becomes `set_of-lt`. Left alone are what begins with a capital (types and facts), names of the
-kit's library (whatever a `use` line brings from outside this repository's crates), strings, and a .rt file's code: in a .rt file only `ghost use`
-lines and clauses are rewritten, and code has no such names. Edits in must-fail/ are turned like the files that they change.
+kit's library (whatever a `use` line brings from outside this repository's crates). The whole of each .rt, .antt and .edit file is turned; a .rt file
+has such names in its `ghost use` lines and clauses alone, since code and strings here have none.
 """
 import os
 import re

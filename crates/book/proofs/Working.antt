@@ -142,9 +142,9 @@ module _ (b : Book) (xs : List Step) (sure : sound places b ≡ true) (inside : 
   abbrev more : ℕ → List Pair
   more i = canon_over places (λ c. run xs (held_at b c) i) (union places (number t.covered) (block places b xs a))
 
-  new_row : (i : ℕ) → touches xs i ≡ true → {c : ℕ} → c ≡ block places b xs a → row_after places xs e.state c t.new i ≡ fitted (get_or t.new i void) (more i)
+  row_after-fitted : (i : ℕ) → touches xs i ≡ true → {c : ℕ} → c ≡ block places b xs a → row_after places xs e.state c t.new i ≡ fitted (get_or t.new i void) (more i)
   unfolding joined_row
-  new_row i u {c} k =
+  row_after-fitted i u {c} k =
       rw u (ap (fitted (get_or t.new i void)) (
       ap₂ (λ (v : ℤ) (ps : List Pair). join places v c ps) (end-value i u) (ap in_use (so_far.rows i (table i u) u) ∙ in_use-packed (canon_over places (λ c. run xs (held_at b c) i) (number t.covered)))
       ∙ ap (λ (m : ℕ). join places (run xs (held_at b a) i) m (canon_over places (λ c. run xs (held_at b c) i) (number t.covered))) k
@@ -155,7 +155,7 @@ module _ (b : Book) (xs : List Step) (sure : sound places b ≡ true) (inside : 
     over : (i : ℕ) → touches xs i ≡ true → (row_after places xs e.state c t.new i).fits ≡ false → too_many places b xs ≡ true
     unfolding too_many results
     over i u f =
-        let many : most_pairs < length (more i) = fits-no (get_or t.new i void) (more i) (new_row i u k) f in
+        let many : most_pairs < length (more i) = fits-no (get_or t.new i void) (more i) (row_after-fitted i u k) f in
         let all-many : most_pairs < together (in_use (item_at b i).held) (canon places (λ c. run xs (held_at b c) i)) =
         omega (arith, over-count places (λ c. run xs (held_at b c) i) (union places (number t.covered) (block places b xs a)) (in_use (item_at b i).held)) in
         any_of b.count _ i (table i u) (rw u (lt-ltb most_pairs _ all-many))
@@ -174,7 +174,7 @@ module _ (b : Book) (xs : List Step) (sure : sound places b ≡ true) (inside : 
           conditions = rw n (union-lt places (number t.covered) c);
           rows = λ i l u.
               rows i l
-              ∙ (fits-yes (get_or t.new i void) (more i) (new_row i u k) (all-at b.count (λ i. (row_after places xs e.state c t.new i).fits) (sym fits ∙ f) i l)).0
+              ∙ (fits-yes (get_or t.new i void) (more i) (row_after-fitted i u k) (all-at b.count (λ i. (row_after places xs e.state c t.new i).fits) (sym fits ∙ f) i l)).0
               ∙ ap (λ (m : ℕ). packed (canon_over places (λ c. run xs (held_at b c) i) m)) (sym all-covered);
           declines = ds ∙ sym (declines-more places b xs (sound-one b sure) table a ha (number t.covered)) ∙ ap (some_declines places b xs) (sym all-covered);
           grants = gs ∙ sym (grants-more places b xs (sound-one b sure) table a ha (number t.covered)) ∙ ap (some_grants places b xs) (sym all-covered);
