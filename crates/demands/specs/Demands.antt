@@ -109,7 +109,7 @@ pub record Demand1 (w : ℕ) : Type 0 where
 -- "any two results it allows are equal" (document 01, How strong the contracts are): once for every contract, since each says `result ≡ definition` (of a lent buffer, what it
 -- holds afterwards); but where the result is a condition, or a product, a contract may say what its number is, and the number settles it
 pub record OneResult : Type 1 where
-  pub results : (A : Type 0) (definition r s : A) → result ≡ definition → s ≡ definition → r ≡ s
+  pub results : (A : Type 0) (definition r s : A) → r ≡ definition → s ≡ definition → r ≡ s
   pub conditions : (c d : Condition) → number c ≡ number d → c ≡ d
   pub products : (p q : Product) → p.0 ≡ q.0 → p ≡ q
 
