@@ -4,7 +4,8 @@
 usage: python3 tools/respell_names.py            at the top of the repository, once, after port.py
        python3 tools/respell_names.py --list     prints each name, old and new, and the names that would fall together; changes nothing
 
-A name such as `setOf` becomes `set_of`, and `setOf-lt` becomes `set_of-lt`. Left alone are what begins with a capital (types and facts), names of the
+A name such as `setOf` becomes `set_of`, and `setOf-lt` becomes `set_of-lt`; a law that speaks of a definition has its name in one piece, so that
+`give-up-whole` becomes `give_up-whole`. Left alone are what begins with a capital (types and facts), names of the
 kit's library (whatever a `use` line brings from outside this repository's crates). The whole of each .rt, .antt and .edit file is turned; a .rt file
 has such names in its `ghost use` lines and clauses alone, since code and strings here have none.
 """
@@ -20,6 +21,12 @@ LAWS = {
     "item_on": "item_on-is",
     "too_long": "sheet-too_long",
 }
+# a law of that name in one file, where elsewhere it is a definition's
+IN_FILE = {"crates/book/proofs/Working.antt": {"new_row": "row_after-fitted"}}
+# definitions that laws name with a dash inside
+PIECES = ("give_up", "in_table", "in_use", "is_open", "no_book", "no_item", "of_places", "opened_item", "or_star", "well_formed")
+# what the older library's words left in names, and an alias with a dot inside
+OLDER = {"get_d_": "get_or-", "get_d-": "get_or-", "Places·places": "place_count"}
 OWN = {name for name in os.listdir("crates") if os.path.isdir(os.path.join("crates", name))}
 WORD = re.compile(r"(?<![\w'])[A-Za-z_][\w'₀-₉]*(?:-[\w'₀-₉]+)*")
 CAMEL = re.compile(r"(?<=[a-z0-9])([A-Z][a-z0-9]*)")
@@ -66,9 +73,17 @@ def turn(text, kept, laws):
             return word
         if word in laws:
             return laws[word]
-        return "-".join(part if part in kept else respelled(part) for part in word.split("-"))
+        new = "-".join(part if part in kept else respelled(part) for part in word.split("-"))
+        for piece in PIECES:
+            dashed = piece.replace("_", "-")
+            if new != dashed:
+                new = re.sub(rf"(?<![^-]){dashed}(?![^-])", piece, new)
+        return new
 
-    return WORD.sub(one, text)
+    text = WORD.sub(one, text)
+    for old, new in OLDER.items():
+        text = text.replace(old, new)
+    return text
 
 
 def main():
@@ -89,7 +104,8 @@ def main():
             print(f"{word} {turned[word]}{'   falls together' if turned[word] in before else ''}")
         return
     for path in paths:
-        text = turn(texts[path], kept, LAWS if path.endswith(".antt") else {})
+        laws = {**LAWS, **IN_FILE.get(path, {})} if path.endswith(".antt") else {}
+        text = turn(texts[path], kept, laws)
         if text != texts[path]:
             with open(path, "w", encoding="utf-8") as out:
                 out.write(text)

@@ -49,9 +49,9 @@ not-below-zero (negsuc n) f e = absurd (true≢false e)
 
 -- ---- items that a step names
 
-in-table-more : (count more : ℕ) (z : ℤ) → count ≤ more → in_table count z ≡ true → in_table more z ≡ true
-in-table-more count more (pos n) h e = lt-ltb n more (omega (arith, ltb-true n count e))
-in-table-more count more (negsuc n) h e = e
+in_table-more : (count more : ℕ) (z : ℤ) → count ≤ more → in_table count z ≡ true → in_table more z ≡ true
+in_table-more count more (pos n) h e = lt-ltb n more (omega (arith, ltb-true n count e))
+in_table-more count more (negsuc n) h e = e
 
 -- what is in a table is in a longer one
 module _ (count more : ℕ) (h : count ≤ more) where
@@ -59,7 +59,7 @@ module _ (count more : ℕ) (h : count ≤ more) where
   unfolding outside
   step-inside-more x e =
       rw (lt-ltb x.item more (omega (arith, item-below count x e))) (by_cases (is_copy x)
-      (λ q. rw q (ap not (in-table-more count more x.operand h (not-false _ (rw q at (or_right (not (ltb x.item count)) _ e))))))
+      (λ q. rw q (ap not (in_table-more count more x.operand h (not-false _ (rw q at (or_right (not (ltb x.item count)) _ e))))))
       (λ q. rw q))
 
   pub inside-more : (xs : List Step) → some_step (outside count) xs ≡ false → some_step (outside more) xs ≡ false

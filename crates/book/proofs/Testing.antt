@@ -15,7 +15,7 @@ use Rattle.polyvalues.specs.Pairs.{no_pair, assignments, blank}
 use Rattle.polyvalues.specs.Values.{equal}
 use Rattle.polyvalues.specs.Polyvalues.{each, most_pairs, rows_of, in_use, packed, AllRows, sound as sound_polyvalue}
 use Rattle.polyvalues.specs.Operations.{same_rows, same, together}
-use Rattle.polyvalues.proofs.Laws.Packed.{sound-well-formed}
+use Rattle.polyvalues.proofs.Laws.Packed.{sound-well_formed}
 use Rattle.polyvalues.proofs.Laws.Paired.{rows_long}
 use Rattle.polyvalues.proofs.Known.{Held, all-rows}
 use Rattle.conditions.specs.Below.{first}
@@ -95,7 +95,7 @@ row-idle w b x l e =
     (λ s. by_cases (same_polyvalue x.pending x.held)
     (λ t.
     let same : x.pending ≡ x.held = same-polyvalue x.pending x.held t in
-    let few : leb (together (in_use x.held) (in_use x.held)) most_pairs ≡ true = le-leb _ _ (together-self w (in_use x.held) (sound-well-formed w x.held s)) in
+    let few : leb (together (in_use x.held) (in_use x.held)) most_pairs ≡ true = le-leb _ _ (together-self w (in_use x.held) (sound-well_formed w x.held s)) in
     rw (l, e, s, t, ap (sound_polyvalue w) same ∙ s, ap (λ (p : Polyvalue). leb (together (in_use x.held) (in_use p)) most_pairs) same ∙ few))
     (λ t. rw (l, e, s, t, and-false)))
     (λ s. rw (l, s))

@@ -27,7 +27,7 @@ use Rattle.polyvalues.specs.Simplify.{join, canon_over, canon}
 use Rattle.polyvalues.specs.Operations.{together}
 use Rattle.polyvalues.proofs.Laws.Applying.{applying-value}
 use Rattle.polyvalues.proofs.Laws.Canon.{over_none, over-full}
-use Rattle.polyvalues.proofs.Laws.Packed.{in_use-packed, sound-well-formed}
+use Rattle.polyvalues.proofs.Laws.Packed.{in_use-packed, sound-well_formed}
 use Rattle.polyvalues.proofs.Laws.Room.{over-count}
 use Rattle.polyvalues.proofs.Inserting.{fits-yes, fits-no}
 use Rattle.book.specs.declared.Book.{Book}
@@ -119,7 +119,7 @@ module _ (xs : List Step) (s : State) (c : ℕ) (new : List Polyvalue) where
 
 -- in a sound book every held polyvalue gives one value
 sound-one : (b : Book) → sound places b ≡ true → Chosen places b
-sound-one b e i h a l = (sound-well-formed places (item_at b i).held ((test-sound places b e).held i h)).complete.once a l
+sound-one b e i h a l = (sound-well_formed places (item_at b i).held ((test-sound places b e).held i h)).complete.once a l
 
 module _ (b : Book) (xs : List Step) (sure : sound places b ≡ true) (inside : some_step (outside b.count) xs ≡ false) (a : ℕ) (ha : a < 2 ^ places)
     {t : Worked} (so_far : Covers places b xs t) (s : State) (starts : StartsAs b xs a b.count s) {e : Ran} (ends : e ≡ ran xs (state_of s)) where

@@ -18,7 +18,7 @@ use Rattle.book.specs.Sound.{Sound}
 use Rattle.book.specs.Shaped.{Whole}
 use Rattle.book.proofs.Laws.Sound.{place-named}
 use Rattle.book.proofs.Laws.But.{place-open, row-alike}
-use Rattle.book.proofs.Laws.Forgetting.{forget-row, forget-open, forget-is-open}
+use Rattle.book.proofs.Laws.Forgetting.{forget-row, forget-open, forget-is_open}
 use Rattle.book.proofs.Laws.Calls.{WholeBut, forgotten, done-accepted}
 use Rattle.demands.specs.Calls.{Call}
 use Rattle.demands.specs.Past.{asks_begin}
@@ -46,7 +46,7 @@ left w e c same f = record {
   count = ap (λ (b : Book). b.count) same;
   records = λ d. ap (λ (b : Book). record_at b d) same;
   opens = λ q h k. let k' : is_open (open_at (forget w e) q) ≡ true = rw same at k in ap (λ (b : Book). open_at b q) same ∙ forget-open w e f.but f.shaped q h k';
-  stays = λ q h k. rw same (forget-is-open w e f.but f.shaped q h k);
+  stays = λ q h k. rw same (forget-is_open w e f.but f.shaped q h k);
   rows = λ q h. rw same (forget-row w e f.shaped q h);
 }
 

@@ -25,15 +25,15 @@ use Rattle.book.specs.Hear.{outcome, hear}
 use Rattle.book.proofs.Laws.Sound.{place-named}
 use Rattle.book.specs.Shaped.{Shaped}
 use Rattle.book.proofs.Laws.But.{place-open, computing-on, busy-is}
-use Rattle.demands.proofs.Events.{ready-keeps, give-up-values, hear-values}
-use Rattle.book.proofs.Laws.Calls.{GivesUp, Hears, give-up-tests, hear-tests}
+use Rattle.demands.proofs.Events.{ready-keeps, give_up-values, hear-values}
+use Rattle.book.proofs.Laws.Calls.{GivesUp, Hears, give_up-tests, hear-tests}
 use Rattle.demands.specs.Calls.{gives_up}
 use Rattle.demands.specs.Past.{Said, said, asks_complete, was_completed, was_aborted, Guess}
 use Rattle.demands.specs.Demands.{pending_at, given_up_at, set_at, Says}
-use Rattle.demands.proofs.Tables.{give-up-acts}
-use Rattle.demands.proofs.Items.{stays_on, ready_on, give-up-on, busy-item, hear-on}
+use Rattle.demands.proofs.Tables.{give_up-acts}
+use Rattle.demands.proofs.Items.{stays_on, ready_on, give_up-on, busy-item, hear-on}
 use Rattle.demands.proofs.Ledger.{ever-now, Ledger, row-marks}
-use Rattle.demands.proofs.Marking.{give-up-marked, hear-marks}
+use Rattle.demands.proofs.Marking.{give_up-marked, hear-marks}
 
 -- what counts
 abbrev pub chosen_at : Book → (ℕ → Bool) → ℕ → ℕ → ℤ
@@ -72,13 +72,13 @@ module _ (w : ℕ) (b : Book) (t : Shaped w b) (g : ℕ → Bool) (a : ℕ) (s :
 
     module _ (n d : ℕ) (e : accepted (give_up w b n d).answer ≡ true) (legal : Guess (said w b (gives_up n d) ∷ past) g) where
       facts : GivesUp w b n d
-      facts = give-up-tests w b n d e
+      facts = give_up-tests w b n d e
 
       -- a transaction on which a district computes is not completed
       not_completed : computing_on n (record_at b d) ≡ true → was_completed (said w b (gives_up n d) ∷ past) n ≡ true → ⊥
       not_completed k z =
           let o = open_of w b n in
-          let marks = row-marks w b _ past l n _ (give-up-acts w b t n d e) in
+          let marks = row-marks w b _ past l n _ (give_up-acts w b t n d e) in
           let its : open_of w b (record_at b d).transaction.0 ≡ o = ap (open_of w b) (busy-is n (record_at b d) facts.last).1 in
           let one : o.decision ≡ 1 = eqb-true o.decision 1 (sym marks.completed ∙ sym (ever-now past (said w b (gives_up n d)) (λ before. asks_complete n) e) ∙ z) in
           let touched : member o.touched d ≡ true = rw its at (facts.sound.busy_touched d facts.district (busy-is n (record_at b d) facts.last).0) in
@@ -93,7 +93,7 @@ module _ (w : ℕ) (b : Book) (t : Shaped w b) (g : ℕ → Bool) (a : ℕ) (s :
           (λ z. absurd (not_completed k z))
           (λ c. by_cases (was_aborted (said w b (gives_up n d) ∷ past) n)
           (λ z. legal.aborted n z)
-          (λ z. legal.given_up n c z (give-up-marked w b t past l n d e k)))
+          (λ z. legal.given_up n c z (give_up-marked w b t past l n d e k)))
 
       -- what an item of the district becomes is what counted
       settled : there d x ≡ true
@@ -102,12 +102,12 @@ module _ (w : ℕ) (b : Book) (t : Shaped w b) (g : ℕ → Bool) (a : ℕ) (s :
           (λ z. rw (z, aborts z))
           (λ z. rw (z, guessed n facts.place)))
 
-      pub give-up-chosen : chosen_at (give_up w b n d).book g a i ≡ chosen_at b g a i
-      give-up-chosen =
-          let v = give-up-values w b t i h a s.assignment n d e in
+      pub give_up-chosen : chosen_at (give_up w b n d).book g a i ≡ chosen_at b g a i
+      give_up-chosen =
+          let v = give_up-values w b t i h a s.assignment n d e in
           by_cases (there d x)
           (λ k. chosen-one _ g a i _ (v.held ∙ rw k (settled k)) (v.pending ∙ rw k (settled k)))
-          (λ k. chosen-same b _ g a i (give-up-on w b t i h n d e ∙ rw k) (v.held ∙ rw k) (v.pending ∙ rw k))
+          (λ k. chosen-same b _ g a i (give_up-on w b t i h n d e ∙ rw k) (v.held ∙ rw k) (v.pending ∙ rw k))
 
     -- ---- hear
 

@@ -17,11 +17,11 @@ use Rattle.book.specs.GiveUp.{give_up_answer, give_up}
 use Rattle.book.specs.Decide.{complete_answer, abort_answer, complete, abort}
 use Rattle.book.specs.Hear.{hear_answer, hear}
 use Rattle.book.specs.Show.{show_answer, shown}
-use Rattle.book.proofs.Laws.Open.{no-book-unsound}
+use Rattle.book.proofs.Laws.Open.{no_book-unsound}
 use Rattle.book.proofs.Laws.OpenedShaped.{opened-whole}
-use Rattle.book.proofs.Laws.Room.{give-up-room, hear-room}
+use Rattle.book.proofs.Laws.Room.{give_up-room, hear-room}
 use Rattle.book.specs.Shaped.{Whole}
-use Rattle.book.proofs.Laws.Calls.{ready-whole, give-up-whole, complete-whole, abort-whole, hear-whole, begin-whole}
+use Rattle.book.proofs.Laws.Calls.{ready-whole, give_up-whole, complete-whole, abort-whole, hear-whole, begin-whole}
 use Rattle.sheet.specs.Open.{opened_sheet, open_sheet, refused as sheet_refused}
 use Rattle.demands.specs.Calls.{Call, begins_with, readies, gives_up, completes, aborts, hears, shows, answer_to, book_after}
 use Rattle.demands.specs.Demands.{order_of, tests_of, first_number, Demand1, OneResult}
@@ -54,7 +54,7 @@ answers w b (shows i buf) = numbered _ _ _ _ (numbered _ _ _ _ (numbered _ _ _ _
 keeps : (w : ℕ) (b : Book) (c : Call) → Whole w b → Whole w (book_after w b c)
 keeps w b (begins_with bytes) v = begin-whole w b bytes v
 keeps w b (readies n d) v = ready-whole w b n d v
-keeps w b (gives_up n d) v = give-up-whole w b n d v
+keeps w b (gives_up n d) v = give_up-whole w b n d v
 keeps w b (completes n) v = complete-whole w b n v
 keeps w b (aborts n) v = abort-whole w b n v
 keeps w b (hears n d) v = hear-whole w b n d v
@@ -67,13 +67,13 @@ demand-1 w = record {
   refused = refused-book w;
   buffer = λ b i buf e. rw e;
   opens = opened-whole w;
-  opens_none = λ districts xs e. (rw e, no-book-unsound w);
+  opens_none = λ districts xs e. (rw e, no_book-unsound w);
   keeps = keeps w;
   too_long = λ s h. record { answer = rw (lt-ltb _ _ h); place = rw (lt-ltb _ _ h); book = rw (lt-ltb _ _ h) };
   malformed = λ s h p e. record { answer = rw (le-ltb _ _ h, e); place = rw (le-ltb _ _ h, e); book = rw (le-ltb _ _ h, e) };
   well_formed = λ s h x at rest e. record { answer = rw (le-ltb _ _ h, e); place = rw (le-ltb _ _ h, e); book = rw (le-ltb _ _ h, e) };
   asking = asked-number w;
-  give_up_room = give-up-room w;
+  give_up_room = give_up-room w;
   hear_room = hear-room w;
 }
 

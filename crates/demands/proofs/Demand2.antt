@@ -6,7 +6,7 @@ use lib.Dec.{eqb}
 use borrow.Author.Tests.{eqb-true, eq-eqb, ne_eqb}
 use Rattle.conditions.proofs.Laws.Below.{by_cases}
 use Rattle.polyvalues.proofs.Laws.Canon.{unique}
-use Rattle.polyvalues.proofs.Laws.Packed.{sound-well-formed}
+use Rattle.polyvalues.proofs.Laws.Packed.{sound-well_formed}
 use Rattle.book.specs.declared.Book.{Book}
 use Rattle.book.specs.declared.Open.{Open}
 use Rattle.book.specs.Answers.{accepted}
@@ -19,11 +19,11 @@ use Rattle.book.specs.Begin.{held_at}
 use Rattle.book.specs.Show.{shown}
 use Rattle.book.specs.Shaped.{Shaped}
 use Rattle.book.proofs.Laws.But.{row-alike}
-use Rattle.demands.proofs.Events.{values-stay, begin-values, ready-keeps, give-up-values, complete-keeps, abort-keeps, hear-values}
+use Rattle.demands.proofs.Events.{values-stay, begin-values, ready-keeps, give_up-values, complete-keeps, abort-keeps, hear-values}
 use Rattle.demands.specs.Calls.{Call, begins_with, readies, gives_up, completes, aborts, hears, shows, answer_to, book_after}
 use Rattle.demands.specs.Demands.{pending_at, Values, row_with, is_decided, Demand2}
 use Rattle.demands.proofs.Acts.{Acts, acts-number, acts-other}
-use Rattle.demands.proofs.Tables.{ready-acts, give-up-acts, complete-acts, abort-acts, hear-acts, begin-number, begin-grant, begin-stays, ready-record, give-up-record, complete-record, abort-record, hear-record, begin-record}
+use Rattle.demands.proofs.Tables.{ready-acts, give_up-acts, complete-acts, abort-acts, hear-acts, begin-number, begin-grant, begin-stays, ready-record, give_up-record, complete-record, abort-record, hear-record, begin-record}
 use Rattle.demands.proofs.Leaving.{show-left, leaves}
 use Rattle.demands.proofs.Settled.{settled}
 
@@ -51,7 +51,7 @@ unfolding kept needed
 forgets w (begins_with bytes) b t e q h k = begin-stays w b t bytes e q h k ∙ rw (or-false (decided (open_at b q)))
 forgets w (readies n d) b t e q h k = let act = ready-acts w b t n d e in act.stays q h k ∙ rw (row-decided w b n (reported d (open_of w b n)) q refl)
 forgets w (gives_up n d) b t e q h k =
-    let act = give-up-acts w b t n d e in
+    let act = give_up-acts w b t n d e in
     act.stays q h k ∙ rw (row-decided w b n (cond (computing_on n (record_at b d)) (marked d (open_of w b n)) (open_of w b n)) q (by_cases (computing_on n (record_at b d)) (λ z. rw z) (λ z. rw z)))
 forgets w (completes n) b t e q h k =
     let act = complete-acts w b t n e in act.stays q h k ∙ rw (row-decides w b _ n _ act refl q h k, or-false (eqb n (open_at b q).number.0))
@@ -62,16 +62,16 @@ forgets w (shows i buf) b t e q h k = (show-left w b t i buf e).stays q h k ∙ 
 pub demand-2 : (w : ℕ) → Demand2 w
 unfolding shown
 demand-2 w = record {
-  held = λ b s i h. sound-well-formed w (item_at b i).held (s.held i h);
-  pending = λ b s i h. sound-well-formed w (item_at b i).pending (s.pending i h);
+  held = λ b s i h. sound-well_formed w (item_at b i).held (s.held i h);
+  pending = λ b s i h. sound-well_formed w (item_at b i).pending (s.pending i h);
   unique = unique w;
   beginning = λ bytes b t e i h a l. begin-values w b t i h a l bytes e;
   beginning_records = λ bytes b t e d h. begin-record w b t bytes e d h;
   beginning_answer = λ bytes b t e. (begin-number w b t bytes e, begin-grant w b t bytes e);
   readiness = λ n d b t e i h a l. stays b _ i (ready-keeps w b n d e i) a;
   readiness_records = λ n d b t e x h. ready-record w b t n d e x;
-  giving_up = λ n d b t e i h a l. give-up-values w b t i h a l n d e;
-  giving_up_records = λ n d b t e x h. give-up-record w b t n d e x;
+  giving_up = λ n d b t e i h a l. give_up-values w b t i h a l n d e;
+  giving_up_records = λ n d b t e x h. give_up-record w b t n d e x;
   completing = λ n b t e i h a l. stays b _ i (complete-keeps w b n e i) a;
   completing_records = λ n b t e x h. complete-record w b t n e x;
   aborting = λ n b t e i h a l. stays b _ i (abort-keeps w b n e i) a;

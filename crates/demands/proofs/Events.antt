@@ -21,9 +21,9 @@ use Rattle.book.specs.GiveUp.{give_up_answer, gave_up, give_up}
 use Rattle.book.specs.Decide.{complete_answer, abort_answer, decide, complete, abort}
 use Rattle.book.specs.Hear.{hear_answer, heard, hear}
 use Rattle.book.specs.Shaped.{Shaped}
-use Rattle.book.proofs.Laws.Values.{value_under, forget-item, begin-held, begin-pending, give-up-held, give-up-pending, hear-held, hear-pending}
+use Rattle.book.proofs.Laws.Values.{value_under, forget-item, begin-held, begin-pending, give_up-held, give_up-pending, hear-held, hear-pending}
 use Rattle.book.proofs.Laws.Settling.{concerned-busy}
-use Rattle.book.proofs.Laws.Calls.{GivesUp, Hears, done-accepted, begin-tests, give-up-tests, hear-tests}
+use Rattle.book.proofs.Laws.Calls.{GivesUp, Hears, done-accepted, begin-tests, give_up-tests, hear-tests}
 use Rattle.demands.specs.Demands.{pending_at, Values, given_up_at, heard_at}
 
 -- an accepted call gives the items of its event: forgetting changes none
@@ -62,26 +62,26 @@ module _ (w : ℕ) (b : Book) (t : Shaped w b) (i : ℕ) (h : i < b.count) (a : 
         pending = begin-pending w b s t (steps bytes) i h a l;
       })
 
-  pub give-up-values : (n d : ℕ) → accepted (give_up w b n d).answer ≡ true
+  pub give_up-values : (n d : ℕ) → accepted (give_up w b n d).answer ≡ true
       → Values (give_up w b n d).book a i
       (cond (there d (item_at b i)) (given_up_at w b n d a i) (held_at b a i))
       (cond (there d (item_at b i)) (given_up_at w b n d a i) (pending_at b a i))
   unfolding give_up done
-  give-up-values n d e =
+  give_up-values n d e =
       values-stay (gave_up w b n d) _ a i (done-item w (give_up_answer w b n d) (gave_up w b n d) b e i) (record {
         held = held;
-        pending = ap (λ (v : Polyvalue). value_under v a) (give-up-pending w b f.sound t n d i h)
+        pending = ap (λ (v : Polyvalue). value_under v a) (give_up-pending w b f.sound t n d i h)
             ∙ rw on_it (by_cases (there d x) (λ k. rw k (held ∙ rw k)) (λ k. rw k));
       })
     where
       f : GivesUp w b n d
-      f = give-up-tests w b n d e
+      f = give_up-tests w b n d e
 
       on_it : concerned b n d x ≡ there d x
       on_it = concerned-busy w b f.sound n d f.place f.district x ∙ rw f.last (and-true (there d x))
 
       held : held_at (gave_up w b n d) a i ≡ cond (there d x) (given_up_at w b n d a i) (held_at b a i)
-      held = rw on_it at (give-up-held w b f.sound t n d i h a l)
+      held = rw on_it at (give_up-held w b f.sound t n d i h a l)
 
   pub hear-values : (n d : ℕ) → accepted (hear w b n d).answer ≡ true
       → Values (hear w b n d).book a i

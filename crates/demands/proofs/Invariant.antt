@@ -27,12 +27,12 @@ use Rattle.demands.specs.Calls.{Call, begins_with, readies, gives_up, completes,
 use Rattle.demands.specs.Past.{Said, said, asks_begin, asks_complete, was_completed, was_given_up, began, Guess, runs, serial}
 use Rattle.demands.specs.Demands.{Says}
 use Rattle.demands.proofs.Acts.{Acts}
-use Rattle.demands.proofs.Tables.{ready-acts, give-up-acts, complete-acts, complete-record, abort-acts, abort-record, hear-acts, begin-after, begin-number, begin-count, begin-places}
+use Rattle.demands.proofs.Tables.{ready-acts, give_up-acts, complete-acts, complete-record, abort-acts, abort-record, hear-acts, begin-after, begin-number, begin-count, begin-places}
 use Rattle.demands.proofs.Assignments.{held-agree, pending-agree, saying-both}
 use Rattle.demands.proofs.Ledger.{ever-not, Same, refused-same, silent-same, Ledger, quiet-ledger}
-use Rattle.demands.proofs.Marking.{ready-ledger, give-up-ledger, complete-ledger, complete-kept, abort-ledger, hear-ledger, begin-ledger}
+use Rattle.demands.proofs.Marking.{ready-ledger, give_up-ledger, complete-ledger, complete-kept, abort-ledger, hear-ledger, begin-ledger}
 use Rattle.demands.proofs.Guesses.{guess-before}
-use Rattle.demands.proofs.Choosing.{chosen_at, chosen-stays, ready-chosen, give-up-chosen, hear-chosen}
+use Rattle.demands.proofs.Choosing.{chosen_at, chosen-stays, ready-chosen, give_up-chosen, hear-chosen}
 use Rattle.demands.proofs.Beginning.{begin-chosen}
 
 -- ---- "A refused call leaves the book .. as [it was] before it."
@@ -151,8 +151,8 @@ module _ (w : ℕ) (s₀ : ℕ → ℤ) (b : Book) (past : List Said) (v : Inv w
       (λ g before legal a says i h. ready-chosen w b t g a says i h n d e)
   accepted-inv (gives_up n d) e =
       let t = v.whole.shaped in
-      acts-inv _ n _ (said w b (gives_up n d)) (give-up-acts w b t n d e) refl (give-up-ledger w b t past v.ledger n d e) (not_late (said w b (gives_up n d)) (λ m. refl))
-      (λ g before legal a says i h. give-up-chosen w b t g a says i h past v.ledger n d e legal)
+      acts-inv _ n _ (said w b (gives_up n d)) (give_up-acts w b t n d e) refl (give_up-ledger w b t past v.ledger n d e) (not_late (said w b (gives_up n d)) (λ m. refl))
+      (λ g before legal a says i h. give_up-chosen w b t g a says i h past v.ledger n d e legal)
   accepted-inv (completes n) e =
       let t = v.whole.shaped in
       acts-inv _ n _ (said w b (completes n)) (complete-acts w b t n e) refl (complete-ledger w b t past v.ledger n e)

@@ -19,11 +19,11 @@ use Rattle.book.specs.Ready.{ready}
 use Rattle.book.specs.GiveUp.{give_up_answer, give_up_item, gave_up, give_up}
 use Rattle.book.specs.Hear.{outcome, hear_answer, hear_item, heard, hear}
 use Rattle.book.specs.Shaped.{Shaped}
-use Rattle.book.proofs.Laws.Values.{begin-item, give-up-item, hear-item}
+use Rattle.book.proofs.Laws.Values.{begin-item, give_up-item, hear-item}
 use Rattle.demands.proofs.Events.{done-item, ready-keeps}
 use Rattle.book.proofs.Laws.But.{computing-on, busy-is, busy-on}
-use Rattle.book.proofs.Laws.Calls.{begin-tests, ready-tests, give-up-tests, hear-tests}
-use Rattle.demands.proofs.Tables.{ready-record, give-up-record, hear-record, begin-record}
+use Rattle.book.proofs.Laws.Calls.{begin-tests, ready-tests, give_up-tests, hear-tests}
+use Rattle.demands.proofs.Tables.{ready-record, give_up-record, hear-record, begin-record}
 
 -- an item stays on its transaction where it stays and no record changes: complete and abort
 pub stays_on : (b c : Book) (i : ℕ) → item_at c i ≡ item_at b i → ((d : ℕ) → record_at c d ≡ record_at b d) → item_on c (item_at c i) ≡ item_on b (item_at b i)
@@ -47,18 +47,18 @@ module _ (w : ℕ) (b : Book) (t : Shaped w b) (i : ℕ) (h : i < b.count) where
 
   -- ---- give up
 
-  pub give-up-district : (n d : ℕ) → accepted (give_up w b n d).answer ≡ true → (item_at (give_up w b n d).book i).district ≡ (item_at b i).district
+  pub give_up-district : (n d : ℕ) → accepted (give_up w b n d).answer ≡ true → (item_at (give_up w b n d).book i).district ≡ (item_at b i).district
   unfolding give_up done give_up_item split
-  give-up-district n d e =
-      rw (done-item w (give_up_answer w b n d) (gave_up w b n d) b e i, give-up-item w b (give-up-tests w b n d e).sound t n d i h)
+  give_up-district n d e =
+      rw (done-item w (give_up_answer w b n d) (gave_up w b n d) b e i, give_up-item w b (give_up-tests w b n d e).sound t n d i h)
       (by_cases (concerned b n d x)
       (λ k. rw k (by_cases (computing_on n (record_at b d)) (λ z. rw z) (λ z. rw z)))
       (λ k. rw k))
 
-  pub give-up-on : (n d : ℕ) (e : accepted (give_up w b n d).answer ≡ true)
+  pub give_up-on : (n d : ℕ) (e : accepted (give_up w b n d).answer ≡ true)
       → item_on (give_up w b n d).book (item_at (give_up w b n d).book i) ≡ cond (there d (item_at b i)) 0 (item_on b (item_at b i))
   unfolding item_on record_on
-  give-up-on n d e = rw (give-up-district n d e, give-up-record w b t n d e x.district) (by_cases (eqb x.district d) (λ k. rw k) (λ k. rw k))
+  give_up-on n d e = rw (give_up-district n d e, give_up-record w b t n d e x.district) (by_cases (eqb x.district d) (λ k. rw k) (λ k. rw k))
 
   -- an item of a district that is busy on n is on n
   pub busy-item : (n d : ℕ) → busy_on n (record_at b d) ≡ true → there d (item_at b i) ≡ true → item_on b (item_at b i) ≡ n

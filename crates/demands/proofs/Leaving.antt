@@ -19,8 +19,8 @@ use Rattle.demands.proofs.Events.{ready-keeps, complete-keeps, abort-keeps}
 use Rattle.demands.specs.Calls.{Call, begins_with, readies, gives_up, completes, aborts, hears, shows, answer_to, book_after}
 use Rattle.demands.specs.Demands.{Leaves}
 use Rattle.demands.proofs.Acts.{Left, left, acts-leaves}
-use Rattle.demands.proofs.Tables.{ready-acts, give-up-acts, complete-acts, abort-acts, hear-acts, begin-last, begin-districts, begin-count, begin-rows}
-use Rattle.demands.proofs.Items.{give-up-district, hear-district, begin-district}
+use Rattle.demands.proofs.Tables.{ready-acts, give_up-acts, complete-acts, abort-acts, hear-acts, begin-last, begin-districts, begin-count, begin-rows}
+use Rattle.demands.proofs.Items.{give_up-district, hear-district, begin-district}
 
 -- show forgets nothing: an accepted one was handed a sound book, in which there is nothing to forget
 pub show-left : (w : ℕ) (b : Book) → Shaped w b → (i : ℕ) (buf : List ℕ) → accepted (show_answer w b i buf) ≡ true → Left w b b
@@ -38,7 +38,7 @@ leaves w (begins_with bytes) b t e = record {
   places = begin-rows w b t bytes e;
 }
 leaves w (readies n d) b t e = acts-leaves w b _ n _ (readies n d) (ready-acts w b t n d e) refl (λ q. refl) (λ i h. ap (λ (x : Item). x.district) (ready-keeps w b n d e i))
-leaves w (gives_up n d) b t e = acts-leaves w b _ n _ (gives_up n d) (give-up-acts w b t n d e) refl (λ q. refl) (λ i h. give-up-district w b t i h n d e)
+leaves w (gives_up n d) b t e = acts-leaves w b _ n _ (gives_up n d) (give_up-acts w b t n d e) refl (λ q. refl) (λ i h. give_up-district w b t i h n d e)
 leaves w (completes n) b t e = acts-leaves w b _ n _ (completes n) (complete-acts w b t n e) refl (λ q. refl) (λ i h. ap (λ (x : Item). x.district) (complete-keeps w b n e i))
 leaves w (aborts n) b t e = acts-leaves w b _ n _ (aborts n) (abort-acts w b t n e) refl (λ q. refl) (λ i h. ap (λ (x : Item). x.district) (abort-keeps w b n e i))
 leaves w (hears n d) b t e =

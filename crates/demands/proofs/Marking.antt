@@ -27,11 +27,11 @@ use Rattle.book.specs.Hear.{hear}
 use Rattle.book.specs.Shaped.{Shaped}
 use Rattle.book.proofs.Laws.Including.{including-either}
 use Rattle.book.proofs.Laws.But.{place-open, computing-on, busy-is}
-use Rattle.book.proofs.Laws.Calls.{GivesUp, ready-tests, give-up-tests, complete-tests, abort-tests}
+use Rattle.book.proofs.Laws.Calls.{GivesUp, ready-tests, give_up-tests, complete-tests, abort-tests}
 use Rattle.demands.specs.Calls.{Call, begins_with, readies, gives_up, completes, aborts, hears, answer_to}
 use Rattle.demands.specs.Past.{Said, said, asks_ready, asks_complete, asks_abort, ever, was_ready, gives_up_early, was_given_up, began}
 use Rattle.demands.specs.Demands.{new_row}
-use Rattle.demands.proofs.Tables.{ready-acts, give-up-acts, complete-acts, abort-acts, hear-acts, begin-last, begin-districts, begin-places}
+use Rattle.demands.proofs.Tables.{ready-acts, give_up-acts, complete-acts, abort-acts, hear-acts, begin-last, begin-districts, begin-places}
 use Rattle.demands.proofs.Ledger.{ever-now, silent-same, Same, Marks, Turns, same-still, same-marks, Ledger, row-marks, acts-ledger}
 
 -- a record that is busy and not computing waits
@@ -88,14 +88,14 @@ module _ (w : ℕ) (b : Book) (t : Shaped w b) (past : List Said) (l : Ledger w 
     o = open_of w b n
 
     facts : GivesUp w b n d
-    facts = give-up-tests w b n d e
+    facts = give_up-tests w b n d e
 
     -- the district is on this transaction
     its_row : open_of w b (record_at b d).transaction.0 ≡ o
     its_row = ap (open_of w b) (busy-is n (record_at b d) facts.last).1
 
     was_ready_as : was_ready past n d ≡ member o.ready d
-    was_ready_as = (row-marks w b _ past l n _ (give-up-acts w b t n d e)).ready d facts.district
+    was_ready_as = (row-marks w b _ past l n _ (give_up-acts w b t n d e)).ready d facts.district
 
     -- it gives up before it was ready exactly where it was computing
     early : gives_up_early past n (gives_up n d) ≡ computing_on n (record_at b d)
@@ -103,8 +103,8 @@ module _ (w : ℕ) (b : Book) (t : Shaped w b) (past : List Said) (l : Ledger w 
         (λ k. rw (k, rw its_row at (facts.sound.computing_not_ready d facts.district (computing-on n (record_at b d) k).0)))
         (λ k. rw (k, rw its_row at (facts.sound.waiting_ready d facts.district (waiting-on n (record_at b d) facts.last k)))))
 
-    pub give-up-marked : computing_on n (record_at b d) ≡ true → was_given_up (now (gives_up n d)) n ≡ true
-    give-up-marked k = ever-now past (said w b (gives_up n d)) (λ before. gives_up_early before n) e ∙ rw (early, k)
+    pub give_up-marked : computing_on n (record_at b d) ≡ true → was_given_up (now (gives_up n d)) n ≡ true
+    give_up-marked k = ever-now past (said w b (gives_up n d)) (λ before. gives_up_early before n) e ∙ rw (early, k)
 
     turns_early : Turns past (said w b (gives_up n d)) b.districts n o (marked d o)
     turns_early = record {
@@ -122,8 +122,8 @@ module _ (w : ℕ) (b : Book) (t : Shaped w b) (past : List Said) (l : Ledger w 
     give_up_turns : Turns past (said w b (gives_up n d)) b.districts n o (cond (computing_on n (record_at b d)) (marked d o) o)
     give_up_turns = by_cases (computing_on n (record_at b d)) (λ k. rw k turns_early) (λ k. rw k (turns_late k))
 
-    pub give-up-ledger : Ledger w (give_up w b n d).book (now (gives_up n d))
-    give-up-ledger = acts-ledger w b _ past l n _ (give-up-acts w b t n d e) (said w b (gives_up n d)) (λ m apart. ne_eqb n m apart) refl give_up_turns
+    pub give_up-ledger : Ledger w (give_up w b n d).book (now (gives_up n d))
+    give_up-ledger = acts-ledger w b _ past l n _ (give_up-acts w b t n d e) (said w b (gives_up n d)) (λ m apart. ne_eqb n m apart) refl give_up_turns
 
   -- ---- complete
 

@@ -11,7 +11,7 @@ use Rattle.polyvalues.specs.declared.polyvalue.Polyvalue.{Polyvalue}
 use Rattle.polyvalues.specs.Pairs.{at}
 use Rattle.polyvalues.specs.Polyvalues.{in_use, packed, AllRows, sound as sound_polyvalue}
 use Rattle.polyvalues.proofs.Laws.Canon.{unique}
-use Rattle.polyvalues.proofs.Laws.Packed.{sound-well-formed, sound-packed}
+use Rattle.polyvalues.proofs.Laws.Packed.{sound-well_formed, sound-packed}
 use Rattle.book.specs.declared.Book.{Book}
 use Rattle.book.specs.declared.Open.{Open}
 use Rattle.book.specs.Book.{most_districts, most_items, no_record, void_item, no_open, record_at, item_at, some_depends, some_on}
@@ -25,7 +25,7 @@ use Rattle.demands.specs.Demands.{pending_at, Values, EachValue, Records, open_a
 same-polyvalue : (w : ℕ) (p q : Polyvalue) → AllRows p → AllRows q → sound_polyvalue w p ≡ true → sound_polyvalue w q ≡ true
     → ((a : ℕ) → a < 2 ^ w → at (in_use p) a ≡ at (in_use q) a) → p ≡ q
 same-polyvalue w p q long wide s t f =
-    sym (sound-packed w p long s) ∙ ap packed (unique w (in_use p) (in_use q) (sound-well-formed w p s).complete (sound-well-formed w q t).complete f) ∙ sound-packed w q wide t
+    sym (sound-packed w p long s) ∙ ap packed (unique w (in_use p) (in_use q) (sound-well_formed w p s).complete (sound-well_formed w q t).complete f) ∙ sound-packed w q wide t
 
 module _ (w : ℕ) (c : Call) (b x y : Book) (u : Whole w x) (v : Whole w y) (l : Leaves w c b x) (m : Leaves w c b y) (same : Records b x (record_at y))
     (values : EachValue w b (λ a i. Values x a i (held_at y a i) (pending_at y a i))) where

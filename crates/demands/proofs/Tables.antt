@@ -24,11 +24,11 @@ use Rattle.book.specs.Hear.{hear_answer, heard, hear}
 use Rattle.book.specs.Shaped.{Shaped, Whole}
 use Rattle.book.proofs.Laws.But.{sound-but, row-own}
 use Rattle.book.proofs.Laws.ReadySound.{ready-records, ready-opens}
-use Rattle.book.proofs.Laws.GiveUpSound.{give-up-records, give-up-opens}
+use Rattle.book.proofs.Laws.GiveUpSound.{give_up-records, give_up-opens}
 use Rattle.book.proofs.Laws.DecideSound.{decide-opens}
 use Rattle.book.proofs.Laws.HearSound.{hear-records}
 use Rattle.book.proofs.Laws.BeginSound.{Begins, begin-records, begin-opens, free-place}
-use Rattle.book.proofs.Laws.Calls.{Decides, ready-tests, give-up-tests, complete-tests, abort-tests, hear-tests, begin-tests, ready-leaves, give-up-leaves, decide-leaves, hear-leaves, begin-leaves}
+use Rattle.book.proofs.Laws.Calls.{Decides, ready-tests, give_up-tests, complete-tests, abort-tests, hear-tests, begin-tests, ready-leaves, give_up-leaves, decide-leaves, hear-leaves, begin-leaves}
 use Rattle.demands.specs.Calls.{begins_with}
 use Rattle.demands.specs.Demands.{open_after}
 use Rattle.demands.proofs.Acts.{Left, done-left, Acts, acts}
@@ -58,17 +58,17 @@ module _ (w : ℕ) (b : Book) (t : Shaped w b) where
   module _ (n d : ℕ) (e : accepted (give_up w b n d).answer ≡ true) where
     give_up_left : Left w (gave_up w b n d) (give_up w b n d).book
     unfolding give_up done
-    give_up_left = done-left w (give_up_answer w b n d) (gave_up w b n d) b e (give-up-leaves w b n d t (give-up-tests w b n d e))
+    give_up_left = done-left w (give_up_answer w b n d) (gave_up w b n d) b e (give_up-leaves w b n d t (give_up-tests w b n d e))
 
-    pub give-up-acts : Acts w b (give_up w b n d).book n (cond (computing_on n (record_at b d)) (marked d (open_of w b n)) (open_of w b n))
+    pub give_up-acts : Acts w b (give_up w b n d).book n (cond (computing_on n (record_at b d)) (marked d (open_of w b n)) (open_of w b n))
     unfolding gave_up
-    give-up-acts =
-        let f = give-up-tests w b n d e in
+    give_up-acts =
+        let f = give_up-tests w b n d e in
         acts w b (gave_up w b n d) _ n _ f.sound f.place (by_cases (computing_on n (record_at b d)) (λ k. rw k) (λ k. rw k)) give_up_left refl refl refl
-        (give-up-opens w b f.sound t n d f.place f.district f.last)
+        (give_up-opens w b f.sound t n d f.place f.district f.last)
 
-    pub give-up-record : (x : ℕ) → record_at (give_up w b n d).book x ≡ cond (eqb x d) no_record (record_at b x)
-    give-up-record x = let f = give-up-tests w b n d e in give_up_left.records x ∙ give-up-records w b f.sound t n d f.place f.district f.last x
+    pub give_up-record : (x : ℕ) → record_at (give_up w b n d).book x ≡ cond (eqb x d) no_record (record_at b x)
+    give_up-record x = let f = give_up-tests w b n d e in give_up_left.records x ∙ give_up-records w b f.sound t n d f.place f.district f.last x
 
   -- ---- complete and abort
 

@@ -19,7 +19,7 @@ use Rattle.polyvalues.specs.declared.polyvalue.Polyvalue.{Polyvalue}
 use Rattle.polyvalues.specs.declared.scan.Scan.{Scan}
 use Rattle.polyvalues.specs.Pairs.{no_pair, applies, at, hits, only, asked}
 use Rattle.polyvalues.specs.Polyvalues.{rows_of, in_use}
-use Rattle.polyvalues.proofs.Joining.{in-use-more}
+use Rattle.polyvalues.proofs.Joining.{in_use-more}
 use Rattle.polyvalues.specs.Asked.{unseen, counted, found}
 
 -- what is asked of the pairs that a scan has seen and those that are left
@@ -62,4 +62,4 @@ left_end ps i a s e = rw (e, drop-length ps) (left-none s a)
 
 pub left-row : (q : Polyvalue) (i a : ℕ) (s : Scan) {p : Pair} → p ≡ get_or (rows_of q) i no_pair → i < length (in_use q)
     → left (counted s p a) (drop (i + 1) (in_use q)) a ≡ left s (drop i (in_use q)) a
-left-row q i a s {p} e h = rw (add-one, in-use-more q i e h) (left-head s p (drop (suc i) (in_use q)) a)
+left-row q i a s {p} e h = rw (add-one, in_use-more q i e h) (left-head s p (drop (suc i) (in_use q)) a)

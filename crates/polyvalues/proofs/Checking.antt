@@ -18,7 +18,7 @@ use Rattle.polyvalues.specs.Pairs.{assignments}
 use Rattle.polyvalues.specs.Polyvalues.{each, rises_from, rises, of_places, proper, most_pairs, Complete, well_formed}
 use Rattle.polyvalues.specs.Checked.{below_all, row_fits, checked_from}
 use Rattle.polyvalues.proofs.Laws.Cover.{covers, covers-once, once-covers}
-use Rattle.polyvalues.proofs.Laws.WellFormed.{complete-some, well-formed-true, true-well-formed}
+use Rattle.polyvalues.proofs.Laws.WellFormed.{complete-some, well_formed-true, true-well_formed}
 
 abbrev filled : ℕ → Pair → Bool
 filled w p = not (empty w (assignments p))
@@ -50,8 +50,8 @@ proper-filled w [] e = refl
 proper-filled w (p ∷ ps) e =
     ap₂ ◌&&◌ (ap (λ (b : Bool). b && not (empty w (assignments p))) (and_left (of_places w p) _ e)) (proper-filled w ps (and_right (of_places w p) _ e))
 
-pub checked-well-formed : (w : ℕ) (ps : List Pair) → each (of_places w) ps ≡ true → length ps ≤ most_pairs → checked_from w below_all 0 ps ≡ well_formed w ps
-checked-well-formed w ps o few =
+pub checked-well_formed : (w : ℕ) (ps : List Pair) → each (of_places w) ps ≡ true → length ps ≤ most_pairs → checked_from w below_all 0 ps ≡ well_formed w ps
+checked-well_formed w ps o few =
     both_ways (checked_from w below_all 0 ps) (well_formed w ps)
     (λ e.
     let t = four (rises_from below_all ps) (each (λ p. in_range p.value) ps) (each (filled w) ps) (covers w 0 ps) (sym (checked-is w below_all 0 ps) ∙ e) in
@@ -59,9 +59,9 @@ checked-well-formed w ps o few =
       simple = record { rising = rises-from ps t.1 ∙ t.0; conditions = proper-filled w ps o ∙ t.2 };
       once = λ a h. omega (arith, rw (member-none a) at (covers-once w 0 ps t.3 a h));
     } in
-    well-formed-true w ps (record { complete = complete; some = complete-some w ps complete; few = few; values = t.1 }))
+    well_formed-true w ps (record { complete = complete; some = complete-some w ps complete; few = few; values = t.1 }))
     (λ e.
-    let f = true-well-formed w ps e in
+    let f = true-well_formed w ps e in
     checked-is w below_all 0 ps
     ∙ ap₂ ◌&&◌ (ap₂ ◌&&◌ (ap₂ ◌&&◌ (sym (rises-from ps f.values) ∙ f.complete.simple.rising) f.values) (sym (proper-filled w ps o) ∙ f.complete.simple.conditions))
     (once-covers w 0 ps (pow_pos (2 ^ w)) (λ a h. rw (member-none a) (omega (arith, f.complete.once a h)))))

@@ -16,7 +16,7 @@ use Rattle.polyvalues.specs.Pairs.{assignments}
 use Rattle.polyvalues.specs.Polyvalues.{in_use, packed}
 use Rattle.polyvalues.specs.Operations.{occurs, different, together, same}
 use Rattle.polyvalues.proofs.Laws.Room.{occurs-append}
-use Rattle.polyvalues.proofs.Joining.{packed-in-use}
+use Rattle.polyvalues.proofs.Joining.{packed-in_use}
 
 -- ---- the same pairs
 
@@ -41,5 +41,5 @@ adds-is v ps qs e f = rw (occurs-append v ps qs, e, f)
 pub together-none : (ps : List Pair) (n : Polyvalue) (r : ℕ) → n ≡ packed [] → r + different (in_use n) ≡ together ps (in_use n) → r ≡ different ps
 unfolding different together
 together-none ps n r e f =
-    let none : in_use n ≡ [] = packed-in-use [] e in
+    let none : in_use n ≡ [] = packed-in_use [] e in
     sym (add-zero r) ∙ ap (λ (l : List Pair). r + different l) (sym none) ∙ f ∙ ap (λ (l : List Pair). different (ps ++ l)) none ∙ ap different (append-nil ps)

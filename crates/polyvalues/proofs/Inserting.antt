@@ -54,17 +54,17 @@ fits-no q ps {r} e t =
     (λ l. absurd (true≢false (sym (ap (λ (j : Joined). j.fits) (e ∙ fitted-yes q ps (leb-true (length ps) most_pairs l))) ∙ t)))
     (λ l. leb-false (length ps) most_pairs l)
 
-pub in-use-length : (q : Polyvalue) → length (in_use q) ≡ min q.count (length (rows_of q))
+pub in_use-length : (q : Polyvalue) → length (in_use q) ≡ min q.count (length (rows_of q))
 unfolding in_use
-in-use-length q = length-take q.count (rows_of q)
+in_use-length q = length-take q.count (rows_of q)
 
-pub in-use-le : (q : Polyvalue) → length (rows_of q) ≡ most_pairs → length (in_use q) ≤ most_pairs
-in-use-le q l = omega (arith, in-use-length q)
+pub in_use-le : (q : Polyvalue) → length (rows_of q) ≡ most_pairs → length (in_use q) ≤ most_pairs
+in_use-le q l = omega (arith, in_use-length q)
 
 -- the code's row i, if it is in use, is one of the list
-pub in-use-row : (q : Polyvalue) (i : ℕ) {p : Pair} → p ≡ get_or (rows_of q) i no_pair → i < length (in_use q) → get_or (in_use q) i no_pair ≡ p
+pub in_use-row : (q : Polyvalue) (i : ℕ) {p : Pair} → p ≡ get_or (rows_of q) i no_pair → i < length (in_use q) → get_or (in_use q) i no_pair ≡ p
 unfolding in_use
-in-use-row q i e h = take_row q.count (rows_of q) i no_pair h ∙ sym e
+in_use-row q i e h = take_row q.count (rows_of q) i no_pair h ∙ sym e
 
 -- a polyvalue whose rows past the count are zero
 module _ (q : Polyvalue) (tidy : q ≡ packed (in_use q)) where
@@ -118,7 +118,7 @@ module _ (w : ℕ) (q : Polyvalue) (new : Pair) (k : ℕ) (tidy : q ≡ packed (
   before : (j : ℕ) → j < k → below (get_or (in_use q) j no_pair).value new.value ≡ true
   before j h =
       let l : k ≤ length (in_use q) = within in
-      ap (λ (p : Pair). below p.value new.value) (in-use-row q j refl (omega arith)) ∙ place.before j h
+      ap (λ (p : Pair). below p.value new.value) (in_use-row q j refl (omega arith)) ∙ place.before j h
 
   -- the row of its value takes the union
   pub inserted_same : {there both : Pair} → has_at q k new.value ≡ true → there ≡ get_or (rows_of q) k no_pair → both ≡ pair new.value (union w (assignments there) (assignments new))
@@ -127,10 +127,10 @@ module _ (w : ℕ) (q : Polyvalue) (new : Pair) (k : ℕ) (tidy : q ≡ packed (
   inserted_same {both = both} has at is =
       let h : k < length (in_use q) = omega (arith, has-lt q k new.value has, tidy-count q tidy) in
       let value : (get_or (in_use q) k no_pair).value ≡ new.value =
-      ap (λ (p : Pair). p.value) (in-use-row q k refl h) ∙ equal-true _ _ (and_right (ltb k q.count) (equal (value_at q k) new.value) has) in
+      ap (λ (p : Pair). p.value) (in_use-row q k refl h) ∙ equal-true _ _ (and_right (ltb k q.count) (equal (value_at q k) new.value) has) in
       let result : insert w new.value (assignments new) (in_use q) ≡ set (in_use q) k both =
       insert-same w new.value (assignments new) (in_use q) k h before value
-      ∙ ap (set (in_use q) k) (ap (λ (p : Pair). pair new.value (union w (assignments p) (assignments new))) (in-use-row q k at h) ∙ sym is) in
+      ∙ ap (set (in_use q) k) (ap (λ (p : Pair). pair new.value (union w (assignments p) (assignments new))) (in_use-row q k at h) ∙ sym is) in
       let long : length (set (in_use q) k both) ≡ length (in_use q) = length-set (in_use q) k both in
       let even : length (set q.values k both.value) ≡ length (set q.conditions k both.condition) =
       length-set q.values k both.value ∙ tidy-even q tidy ∙ sym (length-set q.conditions k both.condition) in
@@ -145,7 +145,7 @@ module _ (w : ℕ) (q : Polyvalue) (new : Pair) (k : ℕ) (tidy : q ≡ packed (
       (λ h.
       let l : k < q.count = omega (arith, tidy-count q tidy) in
       let apart : equal (value_at q k) new.value ≡ false = ap (λ (b : Bool). b && equal (value_at q k) new.value) (sym (lt-ltb k q.count l)) ∙ has in
-      ap (λ (p : Pair). below new.value p.value) (in-use-row q k refl h) ∙ below-else (value_at q k) new.value (place.stops l) apart)
+      ap (λ (p : Pair). below new.value p.value) (in_use-row q k refl h) ∙ below-else (value_at q k) new.value (place.stops l) apart)
 
   -- a value that no row has, and no room for it
   pub inserted-none : has_at q k new.value ≡ false → most_pairs ≤ q.count

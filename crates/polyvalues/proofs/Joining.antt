@@ -29,8 +29,8 @@ use Rattle.polyvalues.proofs.Inserting.{fitted-yes, fitted-no, fits-yes, fits-no
 pub packed-again : (ps : List Pair) {q : Polyvalue} → q ≡ packed ps → q ≡ packed (in_use q)
 packed-again ps e = e ∙ ap packed (sym (ap in_use e ∙ in_use-packed ps))
 
-pub packed-in-use : (ps : List Pair) {q : Polyvalue} → q ≡ packed ps → in_use q ≡ ps
-packed-in-use ps e = ap in_use e ∙ in_use-packed ps
+pub packed-in_use : (ps : List Pair) {q : Polyvalue} → q ≡ packed ps → in_use q ≡ ps
+packed-in_use ps e = ap in_use e ∙ in_use-packed ps
 
 -- an answer that rests on another polyvalue: the same where it fits, and where not, the one that was handed in
 pub refit-yes : (q t : Polyvalue) (ps : List Pair) {r : Joined} → r ≡ fitted t ps → r.fits ≡ true → r ≡ fitted q ps
@@ -42,9 +42,9 @@ refit-no q t ps e f = sym (fitted-no q ps (fits-no t ps e f))
 -- ---- rows
 
 -- from row i on there are it and those after it
-pub in-use-more : (q : Polyvalue) (i : ℕ) {p : Pair} → p ≡ get_or (rows_of q) i no_pair → i < length (in_use q) → drop i (in_use q) ≡ p ∷ drop (suc i) (in_use q)
+pub in_use-more : (q : Polyvalue) (i : ℕ) {p : Pair} → p ≡ get_or (rows_of q) i no_pair → i < length (in_use q) → drop i (in_use q) ≡ p ∷ drop (suc i) (in_use q)
 unfolding in_use
-in-use-more q i e h = rw e (drop-take q.count (rows_of q) i no_pair h)
+in_use-more q i e h = rw e (drop-take q.count (rows_of q) i no_pair h)
 
 -- s has the places that a row before i depends on: those that the polyvalue depends on and the rows from i on leave out
 abbrev pub PlacesBefore : Polyvalue → ℕ → ℕ → Type 0
@@ -60,7 +60,7 @@ places-more q i s {row} {more} at h e before p l =
     let its : member more p ≡ depends_on places (assignments row) p = ap (λ (m : ℕ). member m p) e ∙ member-set_of places (depends_on places (assignments row)) p l in
     ap (λ (b : Bool). b || depends places (drop (suc i) (in_use q)) p) (member-or s more p ∙ ap (λ (b : Bool). member s p || b) its)
     ∙ or_assoc (member s p) (depends_on places (assignments row) p) (depends places (drop (suc i) (in_use q)) p)
-    ∙ rw (in-use-more q i at h) at (before p l)
+    ∙ rw (in_use-more q i at h) at (before p l)
 
 pub places-done : (q : Polyvalue) (i s : ℕ) → length (in_use q) ≤ i → s < 2 ^ places → PlacesBefore q i s → s ≡ set_of places (depends places (in_use q))
 unfolding depends
@@ -74,7 +74,7 @@ pub changed-rows : (w : ℕ) (f : ℕ → ℕ) {n : Polyvalue} → n ≡ packed 
 unfolding simplified
 changed-rows w f {n} empty q few e =
     let rows : List Pair = changed f (in_use q) in
-    let is : simplified_from w (in_use n) rows ≡ simplified w rows = ap (λ (l : List Pair). simplified_from w l rows) (packed-in-use [] empty) in
+    let is : simplified_from w (in_use n) rows ≡ simplified w rows = ap (λ (l : List Pair). simplified_from w l rows) (packed-in_use [] empty) in
     ap (λ (j : Joined). j.polyvalue)
     (e ∙ ap (fitted n) is ∙ fitted-yes n (simplified w rows) (omega (arith, length-simplified w rows, length-map (in_use q) (λ p. pair p.value (f (assignments p))))))
 
@@ -87,7 +87,7 @@ pub selected-rows : (w i : ℕ) (done gone t : Polyvalue) → t ≡ packed (simp
     → simplified_from w (in_use t) (changed (cut w i Aborted) (in_use gone)) ≡ select w i (in_use done) (in_use gone)
 unfolding select simplified
 selected-rows w i done gone t e =
-    ap (λ (l : List Pair). simplified_from w l (changed (cut w i Aborted) (in_use gone))) (packed-in-use _ e)
+    ap (λ (l : List Pair). simplified_from w l (changed (cut w i Aborted) (in_use gone))) (packed-in_use _ e)
     ∙ sym (from-append w [] (changed (cut w i Completed) (in_use done)) (changed (cut w i Aborted) (in_use gone)))
 
 -- ---- one turn of the loop over the rows: `new` is row i with its condition changed
@@ -100,14 +100,14 @@ module _ (w : ℕ) (f : ℕ → ℕ) (done rows : Polyvalue) (i : ℕ) (target :
   unfolding simplified_from
   after =
       ap (λ (p : Pair). simplified_from w (join w p.value (assignments p) (in_use done)) (changed f (drop (suc i) (in_use rows)))) is
-      ∙ rw (in-use-more rows i at more) at left
+      ∙ rw (in_use-more rows i at more) at left
 
   pub turn-fits : r.fits ≡ true
       → (r.polyvalue ≡ packed (in_use r.polyvalue)) × (length (in_use r.polyvalue) ≤ most_pairs)
       × (simplified_from w (in_use r.polyvalue) (changed f (drop (suc i) (in_use rows))) ≡ target)
   turn-fits t =
       let yes' = fits-yes done (join w new.value (assignments new) (in_use done)) e t in
-      let same : in_use r.polyvalue ≡ join w new.value (assignments new) (in_use done) = packed-in-use _ yes'.0 in
+      let same : in_use r.polyvalue ≡ join w new.value (assignments new) (in_use done) = packed-in_use _ yes'.0 in
       (packed-again _ yes'.0, rw same yes'.1, rw same after)
 
   pub turn-full : r.fits ≡ false → most_pairs < length target

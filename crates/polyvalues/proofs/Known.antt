@@ -56,6 +56,6 @@ each_take f zero ps e = refl
 each_take f (suc n) [] e = refl
 each_take f (suc n) (p ∷ ps) e = ap₂ ◌&&◌ (and_left (f p) _ e) (each_take f n ps (and_right (f p) _ e))
 
-pub conditions-of-places : {q : Polyvalue} → Held q → each (of_places places) (in_use q) ≡ true
+pub conditions-of_places : {q : Polyvalue} → Held q → each (of_places places) (in_use q) ≡ true
 unfolding in_use
-conditions-of-places {q} h = each_take (of_places places) q.count (rows_of q) (rows-of_places q.values q.conditions h.own.1.1.1.1.0.0 h.own.1.1.1.1.0.1.1)
+conditions-of_places {q} h = each_take (of_places places) q.count (rows_of q) (rows-of_places q.values q.conditions h.own.1.1.1.1.0.0 h.own.1.1.1.1.0.1.1)

@@ -23,7 +23,7 @@ use Rattle.polyvalues.specs.Values.{below, value_text}
 use Rattle.polyvalues.specs.Pairs.{assignments, no_pair}
 use Rattle.polyvalues.specs.Polyvalues.{rows_of, in_use}
 use Rattle.polyvalues.specs.Text.{pair_text, line_text}
-use Rattle.polyvalues.proofs.Joining.{in-use-more}
+use Rattle.polyvalues.proofs.Joining.{in_use-more}
 
 -- ---- a value: its sign, and its distance from zero
 
@@ -103,7 +103,7 @@ module _ (w : ℕ) (n : ℕ → ℕ) where
 
     rest_more : (i : ℕ) → i < length (in_use q) → rest i ≡ bytes " " ++ row_text i ++ rest (suc i)
     unfolding prefixed
-    rest_more i h = rw (in-use-more q i refl h)
+    rest_more i h = rw (in_use-more q i refl h)
 
     pub rest-length : (i : ℕ) → i < length (in_use q) → length (rest i) ≡ 1 + length (row_text i) + length (rest (i + 1))
     rest-length i h = rw (add-one i, rest_more i h) (simp length-append (omega arith))

@@ -19,8 +19,8 @@ use Rattle.polyvalues.specs.Operations.{together}
 use Rattle.polyvalues.proofs.Laws.Canon.{over-full}
 use Rattle.polyvalues.proofs.Laws.Depends.{at-free, free-canon}
 use Rattle.polyvalues.proofs.Laws.Room.{over-count}
-use Rattle.polyvalues.proofs.Laws.WellFormed.{at-range, canon-well-formed}
-use Rattle.polyvalues.proofs.Laws.Packed.{in_use-packed, packed-sound, sound-well-formed}
+use Rattle.polyvalues.proofs.Laws.WellFormed.{at-range, canon-well_formed}
+use Rattle.polyvalues.proofs.Laws.Packed.{in_use-packed, packed-sound, sound-well_formed}
 use Rattle.book.specs.declared.Item.{Item}
 use Rattle.book.specs.declared.Open.{Open}
 use Rattle.book.specs.declared.Step.{Step}
@@ -165,8 +165,8 @@ module _ (w : ℕ) (b : Book) (sound : Sound w b) (t : Shaped w b) (xs : List St
     results-formed : WellFormed w (results w b xs i)
     unfolding results
     results-formed =
-        canon-well-formed w value
-        (λ a h. run-range xs (held_at b a) f.good (λ j m. at-range (in_use (item_at b j).held) a (sound-well-formed w (item_at b j).held (sound.held j (below j m))).values) i k)
+        canon-well_formed w value
+        (λ a h. run-range xs (held_at b a) f.good (λ j m. at-range (in_use (item_at b j).held) a (sound-well_formed w (item_at b j).held (sound.held j (below j m))).values) i k)
         results-few
 
     -- they depend on no place on which nothing depended

@@ -29,7 +29,7 @@ use Rattle.book.specs.Shaped.{Shaped, Whole}
 use Rattle.book.proofs.Laws.But.{SoundBut, sound-but}
 use Rattle.book.proofs.Laws.Forgetting.{forget-shaped, forget-makes-sound}
 use Rattle.book.proofs.Laws.ReadySound.{ready-shaped, ready-but}
-use Rattle.book.proofs.Laws.GiveUpSound.{give-up-shaped, give-up-but}
+use Rattle.book.proofs.Laws.GiveUpSound.{give_up-shaped, give_up-but}
 use Rattle.book.proofs.Laws.DecideSound.{decide-shaped, decide-but}
 use Rattle.book.proofs.Laws.HearSound.{hear-shaped, hear-but}
 use Rattle.book.proofs.Laws.BeginSound.{Begins, begin-shaped, begin-but}
@@ -103,17 +103,17 @@ ready-whole w b n d s = done-whole w (ready_answer w b n d) (readied w b n d) b 
 abbrev pub GivesUp : ℕ → Book → ℕ → ℕ → Type 0
 GivesUp w b n d = AtDistrict w b n d (busy_on n (record_at b d))
 
-pub give-up-tests : (w : ℕ) (b : Book) (n d : ℕ) → accepted (give_up w b n d).answer ≡ true → GivesUp w b n d
+pub give_up-tests : (w : ℕ) (b : Book) (n d : ℕ) → accepted (give_up w b n d).answer ≡ true → GivesUp w b n d
 unfolding give_up done give_up_answer
-give-up-tests w b n d = at-district w b n d (busy_on n (record_at b d)) NotOnIt refl
+give_up-tests w b n d = at-district w b n d (busy_on n (record_at b d)) NotOnIt refl
 
-pub give-up-leaves : (w : ℕ) (b : Book) (n d : ℕ) → Shaped w b → GivesUp w b n d → WholeBut w (gave_up w b n d)
-give-up-leaves w b n d t f =
-    record { but = give-up-but w b f.sound t n d f.place f.district f.last; shaped = give-up-shaped w b f.sound t n d f.place f.district f.last }
+pub give_up-leaves : (w : ℕ) (b : Book) (n d : ℕ) → Shaped w b → GivesUp w b n d → WholeBut w (gave_up w b n d)
+give_up-leaves w b n d t f =
+    record { but = give_up-but w b f.sound t n d f.place f.district f.last; shaped = give_up-shaped w b f.sound t n d f.place f.district f.last }
 
-pub give-up-whole : (w : ℕ) (b : Book) (n d : ℕ) → Whole w b → Whole w (give_up w b n d).book
+pub give_up-whole : (w : ℕ) (b : Book) (n d : ℕ) → Whole w b → Whole w (give_up w b n d).book
 unfolding give_up done
-give-up-whole w b n d s = done-whole w (give_up_answer w b n d) (gave_up w b n d) b s (λ e. give-up-leaves w b n d s.shaped (give-up-tests w b n d e))
+give_up-whole w b n d s = done-whole w (give_up_answer w b n d) (gave_up w b n d) b s (λ e. give_up-leaves w b n d s.shaped (give_up-tests w b n d e))
 
 -- ---- complete and abort
 

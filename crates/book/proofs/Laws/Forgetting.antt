@@ -57,9 +57,9 @@ module _ (w : ℕ) (b : Book) (s : SoundBut w b) (t : Shaped w b) where
   forget-open q h k = (still q (fate q h) k).0
 
   -- "a decided transaction is closed .. exactly when no district is on it and no held or pending polyvalue depends on it"
-  pub forget-is-open : (q : ℕ) → q < w → is_open (open_at b q) ≡ true → is_open (open_at (forget w b) q) ≡ kept w b q (open_at b q)
+  pub forget-is_open : (q : ℕ) → q < w → is_open (open_at b q) ≡ true → is_open (open_at (forget w b) q) ≡ kept w b q (open_at b q)
   unfolding remembered
-  forget-is-open q h k = rw (after q h) (by_cases (kept w b q (open_at b q)) (λ n. rw n k) (λ n. rw n))
+  forget-is_open q h k = rw (after q h) (by_cases (kept w b q (open_at b q)) (λ n. rw n k) (λ n. rw n))
 
   gone : (q : ℕ) → Fate q → q < w → is_open (open_at c q) ≡ false → (open_at c q ≡ no_open) × ((i : ℕ) → i < b.count → item_depends w (item_at b i) q ≡ false)
   unfolding needed some_depends

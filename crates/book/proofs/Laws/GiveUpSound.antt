@@ -21,7 +21,7 @@ use Rattle.book.specs.Sound.{Sound}
 use Rattle.book.proofs.Laws.Rows.{length-rows, past-rows, each_row, get_or-set}
 use Rattle.book.proofs.Laws.Including.{including-other}
 use Rattle.book.specs.Shaped.{ShapedItem, Shaped}
-use Rattle.book.proofs.Laws.Values.{give-up-item}
+use Rattle.book.proofs.Laws.Values.{give_up-item}
 use Rattle.book.proofs.Laws.But.{DistrictRow, ItemRow, OpenRow, SoundBut, sound-but, idle-district, Seen, seen_same, seen_at, row-own, district-stays, item-stays, place-open, computing-on, busy-is}
 use Rattle.book.proofs.Laws.Changing.{change-but}
 use Rattle.book.proofs.Laws.Settling.{neither-depends, depends-neither, idle-row, split-sound, split-shaped, split-free, concerned-busy}
@@ -52,19 +52,19 @@ module _ (w : ℕ) (b : Book) (sound : Sound w b) (t : Shaped w b) (n d : ℕ) (
   was = rw number at (s.districts d l)
 
   -- the records afterwards, and the places
-  pub give-up-records : (e : ℕ) → record_at (gave_up w b n d) e ≡ cond (eqb e d) no_record (record_at b e)
+  pub give_up-records : (e : ℕ) → record_at (gave_up w b n d) e ≡ cond (eqb e d) no_record (record_at b e)
   unfolding gave_up
-  give-up-records e = get_or-set b.records d no_record no_record e (omega (arith, l, sound.few_districts, t.records))
+  give_up-records e = get_or-set b.records d no_record no_record e (omega (arith, l, sound.few_districts, t.records))
 
   -- ---- the transaction
 
   abbrev new : Open
   new = cond early (marked d o) o
 
-  pub give-up-opens : (m : ℕ) → open_at (gave_up w b n d) m
+  pub give_up-opens : (m : ℕ) → open_at (gave_up w b n d) m
       ≡ cond (eqb m (place_of w b n)) (cond (computing_on n (record_at b d)) (marked d (open_of w b n)) (open_of w b n)) (open_at b m)
   unfolding gave_up
-  give-up-opens m =
+  give_up-opens m =
       by_cases early
       (λ e. rw e (get_or-set b.«open» q (marked d o) no_open m (omega (arith, t.places))))
       (λ e. rw e (row-own b q m))
@@ -105,13 +105,13 @@ module _ (w : ℕ) (b : Book) (sound : Sound w b) (t : Shaped w b) (n d : ℕ) (
       (λ z. rw z (seen_same e o o refl))
 
   seen : (e m : ℕ) → e < b.districts → eqb e d ≡ false → Seen e (open_at b m) (open_at c m)
-  seen e m h k = seen_at b c q e new give-up-opens (new_seen e h k) m
+  seen e m h k = seen_at b c q e new give_up-opens (new_seen e h k) m
 
   districts : (e : ℕ) → e < b.districts → DistrictRow w e (place_of w b (record_at c e).transaction.0) (open_at c (place_of w b (record_at c e).transaction.0)) (record_at c e)
   districts e h =
       by_cases (eqb e d)
-      (λ k. rw (give-up-records e, k, eqb-true e d k) (idle-district w d _ _))
-      (λ k. rw (give-up-records e, k) (district-stays w e _ _ _ _ (record_at b e) (s.districts e h) (λ z. refl) (λ z. seen e _ h k)))
+      (λ k. rw (give_up-records e, k, eqb-true e d k) (idle-district w d _ _))
+      (λ k. rw (give_up-records e, k) (district-stays w e _ _ _ _ (record_at b e) (s.districts e h) (λ z. refl) (λ z. seen e _ h k)))
 
   -- ---- items
 
@@ -132,11 +132,11 @@ module _ (w : ℕ) (b : Book) (sound : Sound w b) (t : Shaped w b) (n d : ℕ) (
 
   on_there : (x : Item) → there d x ≡ true → item_on c x ≡ 0
   unfolding item_on record_on
-  on_there x k = rw (give-up-records x.district, k)
+  on_there x k = rw (give_up-records x.district, k)
 
   on_else : (x : Item) → there d x ≡ false → item_on c x ≡ item_on b x
   unfolding item_on
-  on_else x k = rw (give-up-records x.district, k)
+  on_else x k = rw (give_up-records x.district, k)
 
   settled_row : (m u : ℕ) (x : Item) → ItemRow w b.districts m u x → there d x ≡ true → (v : ℕ) → ItemRow w b.districts (item_on c (settled x)) v (settled x)
   unfolding split
@@ -149,8 +149,8 @@ module _ (w : ℕ) (b : Book) (sound : Sound w b) (t : Shaped w b) (n d : ℕ) (
   items i h =
       let x : Item = item_at b i in
       by_cases (there d x)
-      (λ k. rw (give-up-item w b sound t n d i h, item_there x k) (settled_row _ _ x (s.items i h) k _))
-      (λ k. rw (give-up-item w b sound t n d i h, item_else x k)
+      (λ k. rw (give_up-item w b sound t n d i h, item_there x k) (settled_row _ _ x (s.items i h) k _))
+      (λ k. rw (give_up-item w b sound t n d i h, item_else x k)
       (item-stays w b.districts _ _ _ _ x (s.items i h) (on_else x k) (λ z. ap (place_of w b) (on_else x k))))
 
   settled_free : (m u : ℕ) (x : Item) → ItemRow w b.districts m u x → (j : ℕ) → (q ≡ j → ⊥) → item_depends w x j ≡ false → item_depends w (settled x) j ≡ false
@@ -163,24 +163,24 @@ module _ (w : ℕ) (b : Book) (sound : Sound w b) (t : Shaped w b) (n d : ℕ) (
   free_unused j h k i a =
       let x : Item = item_at b i in
       by_cases (there d x)
-      (λ z. rw (give-up-item w b sound t n d i a, item_there x z)
+      (λ z. rw (give_up-item w b sound t n d i a, item_there x z)
       (settled_free _ _ x (s.items i a) j (λ e. true≢false (sym (place-open w b n p) ∙ rw e k)) (s.free_unused j h k i a)))
-      (λ z. rw (give-up-item w b sound t n d i a, item_else x z) (s.free_unused j h k i a))
+      (λ z. rw (give_up-item w b sound t n d i a, item_else x z) (s.free_unused j h k i a))
 
   -- ---- the book
 
-  pub give-up-but : SoundBut w (gave_up w b n d)
+  pub give_up-but : SoundBut w (gave_up w b n d)
   unfolding gave_up
-  give-up-but =
+  give_up-but =
       change-but w b s _ _ _ q new (record {
         place = p;
         was_open = place-open w b n p;
         number = by_cases early (λ e. rw e) (λ e. rw e);
-        opens = give-up-opens;
+        opens = give_up-opens;
         row = row;
         districts = districts;
         items = items;
-        past_districts = λ e h k. give-up-records e ∙ rw (ne_eqb e d (λ z. omega arith)) (s.past_districts e h k);
+        past_districts = λ e h k. give_up-records e ∙ rw (ne_eqb e d (λ z. omega arith)) (s.past_districts e h k);
         past_items = λ i h k. past-rows _ void_item b.count b.items i k ∙ s.past_items i h k;
         free_unused = free_unused;
       })
@@ -201,9 +201,9 @@ module _ (w : ℕ) (b : Book) (sound : Sound w b) (t : Shaped w b) (n d : ℕ) (
   unfolding gave_up
   length_open = by_cases early (λ e. rw e (length-set b.«open» q (marked d o) ∙ t.places)) (λ e. rw e t.places)
 
-  pub give-up-shaped : Shaped w (gave_up w b n d)
+  pub give_up-shaped : Shaped w (gave_up w b n d)
   unfolding gave_up
-  give-up-shaped = record {
+  give_up-shaped = record {
     records = length-set b.records d _ ∙ t.records;
     items = length-rows (λ i x. give_up_item w b n d q early x) void_item b.count b.items ∙ t.items;
     places = length_open;

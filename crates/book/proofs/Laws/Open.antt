@@ -11,7 +11,7 @@ use Rattle.conditions.proofs.Laws.Below.{and_left, and_right, by_cases, five}
 use Rattle.polyvalues.specs.Pairs.{certain}
 use Rattle.polyvalues.specs.Polyvalues.{sound as sound_polyvalue}
 use Rattle.polyvalues.proofs.Laws.Depends.{certain-free}
-use Rattle.polyvalues.proofs.Laws.WellFormed.{certain-well-formed}
+use Rattle.polyvalues.proofs.Laws.WellFormed.{certain-well_formed}
 use Rattle.polyvalues.proofs.Laws.Packed.{in_use-packed, packed-sound}
 use Rattle.book.specs.declared.Book.{Book}
 use Rattle.book.specs.declared.Item.{Item}
@@ -26,9 +26,9 @@ use Rattle.book.proofs.Laws.But.{idle-district, but-sound}
 use Rattle.book.proofs.Laws.Settling.{idle-row}
 
 -- "the all-zero book, which is not sound"
-pub no-book-unsound : (w : ℕ) → sound w (no_book w) ≡ false
+pub no_book-unsound : (w : ℕ) → sound w (no_book w) ≡ false
 unfolding no_book
-no-book-unsound w = by_cases (sound w (no_book w)) (λ e. let some : 1 ≤ 0 = (test-sound w (no_book w) e).some_districts in absurd (omega arith)) (λ e. e)
+no_book-unsound w = by_cases (sound w (no_book w)) (λ e. let some : 1 ≤ 0 = (test-sound w (no_book w) e).some_districts in absurd (omega arith)) (λ e. e)
 
 -- ---- an item when its book is opened
 
@@ -42,7 +42,7 @@ fresh : (w districts : ℕ) (x : Opening) → good_item districts x ≡ true →
 unfolding opened_item item_depends
 fresh w districts x e = record {
   belongs = ltb-true x.district districts (and_left (ltb x.district districts) _ e);
-  held = packed-sound w (certain w x.value) (certain-well-formed w x.value (and_right (ltb x.district districts) _ e));
+  held = packed-sound w (certain w x.value) (certain-well_formed w x.value (and_right (ltb x.district districts) _ e));
   same = refl;
   free = λ q. rw (in_use-packed (certain w x.value), certain-free w x.value q);
 }

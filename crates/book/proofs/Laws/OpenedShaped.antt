@@ -17,19 +17,19 @@ use Rattle.book.proofs.Laws.Open.{opened-sound}
 use Rattle.book.specs.Shaped.{ShapedItem, Shaped, Whole}
 use Rattle.polyvalues.proofs.Laws.Paired.{packed-rows}
 
-opened-item-shaped : (w : ℕ) (x : Opening) → ShapedItem (opened_item w x)
+opened_item-shaped : (w : ℕ) (x : Opening) → ShapedItem (opened_item w x)
 unfolding opened_item certain
-opened-item-shaped w x = let e = packed-rows (certain w x.value) (omega arith) in record { held = e; pending = e }
+opened_item-shaped w x = let e = packed-rows (certain w x.value) (omega arith) in record { held = e; pending = e }
 
-no-item-shaped : ShapedItem no_item
+no_item-shaped : ShapedItem no_item
 unfolding no_item
-no-item-shaped = let e = packed-rows [] (omega arith) in record { held = e; pending = e }
+no_item-shaped = let e = packed-rows [] (omega arith) in record { held = e; pending = e }
 
 rows-shaped : (w : ℕ) (xs : List Opening) (n i : ℕ) → i < length xs + n → ShapedItem (get_or (map (opened_item w) xs ++ replicate n no_item) i void_item)
 rows-shaped w xs n i h =
     by_cases (ltb i (length xs))
-    (λ k. rw (made_row (opened_item w) xs (replicate n no_item) no_opening void_item i (ltb-true i (length xs) k)) (opened-item-shaped w (get_or xs i no_opening)))
-    (λ k. rw (padded-row (opened_item w) xs n no_item void_item i (ltb-false i (length xs) k) h) no-item-shaped)
+    (λ k. rw (made_row (opened_item w) xs (replicate n no_item) no_opening void_item i (ltb-true i (length xs) k)) (opened_item-shaped w (get_or xs i no_opening)))
+    (λ k. rw (padded-row (opened_item w) xs n no_item void_item i (ltb-false i (length xs) k) h) no_item-shaped)
 
 pub opened-whole : (w districts : ℕ) (xs : List Opening) → good_opening districts xs ≡ true → Whole w (opened w districts xs)
 unfolding good_opening opened opened_book

@@ -12,7 +12,7 @@ use Rattle.polyvalues.specs.declared.polyvalue.Pair.{Pair}
 use Rattle.polyvalues.specs.Polyvalues.{most_pairs, WellFormed, in_use}
 use Rattle.polyvalues.specs.Operations.{reduce, select, occurs, together}
 use Rattle.polyvalues.proofs.Laws.Operations.{reduce-count}
-use Rattle.polyvalues.proofs.Laws.Packed.{sound-well-formed}
+use Rattle.polyvalues.proofs.Laws.Packed.{sound-well_formed}
 use Rattle.polyvalues.proofs.Laws.Room.{occurs-append, occurs-first, occurs-second, occurs-reduce, different-le, different-rising, select-count}
 use Rattle.book.specs.declared.Book.{Book}
 use Rattle.book.specs.Book.{item_at}
@@ -53,12 +53,12 @@ module _ (w : ℕ) (b : Book) (s : Sound w b) (i : ℕ) (h : i < b.count) where
   split-together = together-swap (in_use (item_at b i).held) (in_use (item_at b i).pending) (s.few_together i h)
 
   -- giving up has room for the pending value where the transaction at q completes and the held value where it aborts
-  pub give-up-room : (q : ℕ) → length (select w q (in_use (item_at b i).pending) (in_use (item_at b i).held)) ≤ most_pairs
-  give-up-room q = omega (arith, split-together, select-count w q (in_use (item_at b i).pending) (in_use (item_at b i).held))
+  pub give_up-room : (q : ℕ) → length (select w q (in_use (item_at b i).pending) (in_use (item_at b i).held)) ≤ most_pairs
+  give_up-room q = omega (arith, split-together, select-count w q (in_use (item_at b i).pending) (in_use (item_at b i).held))
 
   -- hearing has room for the reduced values
   pub hear-room : (q : ℕ) (o : Bool) → (length (reduce w q o (in_use (item_at b i).held)) ≤ most_pairs) × (length (reduce w q o (in_use (item_at b i).pending)) ≤ most_pairs)
   hear-room q o = (
-    omega (arith, (sound-well-formed w (item_at b i).held (s.held i h)).few, reduce-count w q o (in_use (item_at b i).held)),
-    omega (arith, (sound-well-formed w (item_at b i).pending (s.pending i h)).few, reduce-count w q o (in_use (item_at b i).pending)),
+    omega (arith, (sound-well_formed w (item_at b i).held (s.held i h)).few, reduce-count w q o (in_use (item_at b i).held)),
+    omega (arith, (sound-well_formed w (item_at b i).pending (s.pending i h)).few, reduce-count w q o (in_use (item_at b i).pending)),
   )

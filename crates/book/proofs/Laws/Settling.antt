@@ -8,10 +8,10 @@ use Rattle.conditions.proofs.Laws.Below.{or_left, or_right, by_cases}
 use Rattle.polyvalues.specs.Pairs.{depends}
 use Rattle.polyvalues.specs.Polyvalues.{in_use, WellFormed, sound as sound_polyvalue}
 use Rattle.polyvalues.specs.Operations.{reduce, select}
-use Rattle.polyvalues.proofs.Laws.WellFormed.{reduce-well-formed, select-well-formed}
+use Rattle.polyvalues.proofs.Laws.WellFormed.{reduce-well_formed, select-well_formed}
 use Rattle.polyvalues.proofs.Laws.Operations.{reduce-depends-not, select-depends-not}
 use Rattle.polyvalues.proofs.Laws.Paired.{packed-rows}
-use Rattle.polyvalues.proofs.Laws.Packed.{in_use-packed, packed-sound, sound-well-formed}
+use Rattle.polyvalues.proofs.Laws.Packed.{in_use-packed, packed-sound, sound-well_formed}
 use Rattle.book.specs.declared.Record.{Record}
 use Rattle.book.specs.declared.Item.{Item}
 use Rattle.book.specs.declared.Book.{Book}
@@ -43,21 +43,21 @@ idle-row w districts n q x h e same none = record {
   pending = ap (sound_polyvalue w) same ∙ e;
   idle_same = λ k. same;
   own_free = λ k. absurd (omega arith);
-  few_together = rw same (together-self w (in_use x.held) (sound-well-formed w x.held e));
+  few_together = rw same (together-self w (in_use x.held) (sound-well_formed w x.held e));
 }
 
 -- ---- one sound item
 
 module _ (w districts n q : ℕ) (x : Item) (f : ItemRow w districts n q x) where
   held-formed : WellFormed w (in_use x.held)
-  held-formed = sound-well-formed w x.held f.held
+  held-formed = sound-well_formed w x.held f.held
 
   pending-formed : WellFormed w (in_use x.pending)
-  pending-formed = sound-well-formed w x.pending f.pending
+  pending-formed = sound-well_formed w x.pending f.pending
 
   split-formed : (p : ℕ) → WellFormed w (select w p (in_use x.pending) (in_use x.held))
   split-formed p =
-      select-well-formed w p (in_use x.pending) (in_use x.held) pending-formed held-formed
+      select-well_formed w p (in_use x.pending) (in_use x.held) pending-formed held-formed
       (together-swap (in_use x.held) (in_use x.pending) f.few_together)
 
   -- the split is a polyvalue
@@ -79,17 +79,17 @@ module _ (w districts n q : ℕ) (x : Item) (f : ItemRow w districts n q x) wher
 
   reduce-held-sound : (p : ℕ) (o : Bool) → sound_polyvalue w (reduce_item w p o x).held ≡ true
   unfolding reduce_item
-  reduce-held-sound p o = packed-sound w (reduce w p o (in_use x.held)) (reduce-well-formed w p o (in_use x.held) held-formed)
+  reduce-held-sound p o = packed-sound w (reduce w p o (in_use x.held)) (reduce-well_formed w p o (in_use x.held) held-formed)
 
   reduce-pending-sound : (p : ℕ) (o : Bool) → sound_polyvalue w (reduce_item w p o x).pending ≡ true
   unfolding reduce_item
-  reduce-pending-sound p o = packed-sound w (reduce w p o (in_use x.pending)) (reduce-well-formed w p o (in_use x.pending) pending-formed)
+  reduce-pending-sound p o = packed-sound w (reduce w p o (in_use x.pending)) (reduce-well_formed w p o (in_use x.pending) pending-formed)
 
   pub reduce-shaped : (p : ℕ) (o : Bool) → ShapedItem (reduce_item w p o x)
   unfolding reduce_item
   reduce-shaped p o = record {
-    held = packed-rows (reduce w p o (in_use x.held)) (reduce-well-formed w p o (in_use x.held) held-formed).few;
-    pending = packed-rows (reduce w p o (in_use x.pending)) (reduce-well-formed w p o (in_use x.pending) pending-formed).few;
+    held = packed-rows (reduce w p o (in_use x.held)) (reduce-well_formed w p o (in_use x.held) held-formed).few;
+    pending = packed-rows (reduce w p o (in_use x.pending)) (reduce-well_formed w p o (in_use x.pending) pending-formed).few;
   }
 
   pub reduce-free-of : (p j : ℕ) (o : Bool) → item_depends w x j ≡ false → item_depends w (reduce_item w p o x) j ≡ false

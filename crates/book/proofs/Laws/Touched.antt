@@ -15,9 +15,9 @@ use Rattle.book.specs.Programs.{is_copy, numbered, names, touches, some_step}
 use Rattle.book.specs.Begin.{in_table, outside, some_busy, touches_district}
 use Rattle.book.specs.Sound.{EachItem}
 
-in-table-below : (count : ℕ) (z : ℤ) → in_table count z ≡ true → numbered z < count
-in-table-below count (pos n) e = ltb-true n count e
-in-table-below count (negsuc n) e = absurd (true≢false (sym e))
+in_table-below : (count : ℕ) (z : ℤ) → in_table count z ≡ true → numbered z < count
+in_table-below count (pos n) e = ltb-true n count e
+in_table-below count (negsuc n) e = absurd (true≢false (sym e))
 
 module _ (count : ℕ) (x : Step) (inside : outside count x ≡ false) where
   pub item-below : x.item < count
@@ -27,7 +27,7 @@ module _ (count : ℕ) (x : Step) (inside : outside count x ≡ false) where
   pub source-below : x.kind ≡ 4 → numbered x.operand < count
   unfolding outside
   source-below e =
-      in-table-below count x.operand (not-false _ (rw (eq-eqb x.kind 4 e) at (or_right (not (ltb x.item count)) _ inside)))
+      in_table-below count x.operand (not-false _ (rw (eq-eqb x.kind 4 e) at (or_right (not (ltb x.item count)) _ inside)))
 
   pub names-past : (i : ℕ) → count ≤ i → names x i ≡ false
   unfolding names

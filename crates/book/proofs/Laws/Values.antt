@@ -17,7 +17,7 @@ use Rattle.polyvalues.specs.Simplify.{canon}
 use Rattle.polyvalues.specs.Operations.{reduce, select}
 use Rattle.polyvalues.proofs.Laws.Canon.{at-canon}
 use Rattle.polyvalues.proofs.Laws.Operations.{reduce-canon, select-canon}
-use Rattle.polyvalues.proofs.Laws.Packed.{in_use-packed, sound-well-formed}
+use Rattle.polyvalues.proofs.Laws.Packed.{in_use-packed, sound-well_formed}
 use Rattle.book.specs.declared.Item.{Item}
 use Rattle.book.specs.declared.Step.{Step}
 use Rattle.book.specs.declared.Book.{Book}
@@ -63,10 +63,10 @@ module _ (w : ℕ) (b : Book) (s : Sound w b) (t : Shaped w b) where
   inside i h = omega (arith, s.few_items, t.items)
 
   pub held-complete : (i : ℕ) → i < b.count → Complete w (in_use (item_at b i).held)
-  held-complete i h = (sound-well-formed w (item_at b i).held (s.held i h)).complete
+  held-complete i h = (sound-well_formed w (item_at b i).held (s.held i h)).complete
 
   pub pending-complete : (i : ℕ) → i < b.count → Complete w (in_use (item_at b i).pending)
-  pending-complete i h = (sound-well-formed w (item_at b i).pending (s.pending i h)).complete
+  pending-complete i h = (sound-well_formed w (item_at b i).pending (s.pending i h)).complete
 
   -- ---- begin
 
@@ -90,33 +90,33 @@ module _ (w : ℕ) (b : Book) (s : Sound w b) (t : Shaped w b) where
 
   -- ---- give up
 
-  pub give-up-item : (n d i : ℕ) → i < b.count → item_at (gave_up w b n d) i ≡ give_up_item w b n d (place_of w b n) (computing_on n (record_at b d)) (item_at b i)
+  pub give_up-item : (n d i : ℕ) → i < b.count → item_at (gave_up w b n d) i ≡ give_up_item w b n d (place_of w b n) (computing_on n (record_at b d)) (item_at b i)
   unfolding gave_up
-  give-up-item n d i h = get_or-rows (λ i x. give_up_item w b n d (place_of w b n) (computing_on n (record_at b d)) x) void_item b.count b.items i h (inside i h)
+  give_up-item n d i h = get_or-rows (λ i x. give_up_item w b n d (place_of w b n) (computing_on n (record_at b d)) x) void_item b.count b.items i h (inside i h)
 
   split_at : (q i : ℕ) → i < b.count → (a : ℕ) → a < 2 ^ w → value_under (split w q (item_at b i)).held a ≡ cond (member a q) (value_under (item_at b i).pending a) (value_under (item_at b i).held a)
   unfolding split
   split_at q i h a l = select-at w q (in_use (item_at b i).pending) (in_use (item_at b i).held) (pending-complete i h) (held-complete i h) a l
 
   -- "From computing: pending becomes held .. From waiting: each item becomes its pending value where the transaction completes and its held value where it aborts"
-  pub give-up-held : (n d i : ℕ) → i < b.count → (a : ℕ) → a < 2 ^ w
+  pub give_up-held : (n d i : ℕ) → i < b.count → (a : ℕ) → a < 2 ^ w
       → value_under (item_at (gave_up w b n d) i).held a
       ≡ cond (concerned b n d (item_at b i))
       (cond (computing_on n (record_at b d)) (value_under (item_at b i).held a) (cond (member a (place_of w b n)) (value_under (item_at b i).pending a) (value_under (item_at b i).held a)))
       (value_under (item_at b i).held a)
   unfolding give_up_item
-  give-up-held n d i h a l =
-      ap (λ (x : Item). value_under x.held a) (give-up-item n d i h)
+  give_up-held n d i h a l =
+      ap (λ (x : Item). value_under x.held a) (give_up-item n d i h)
       ∙ by_cases (concerned b n d (item_at b i))
       (λ e. rw e (by_cases (computing_on n (record_at b d)) (λ f. rw f) (λ f. rw f (split_at (place_of w b n) i h a l))))
       (λ e. rw e)
 
   -- a district that gave up is idle: its items' pending values are the held ones
-  pub give-up-pending : (n d i : ℕ) → i < b.count
+  pub give_up-pending : (n d i : ℕ) → i < b.count
       → (item_at (gave_up w b n d) i).pending ≡ cond (concerned b n d (item_at b i)) (item_at (gave_up w b n d) i).held (item_at b i).pending
   unfolding give_up_item split
-  give-up-pending n d i h =
-      rw (give-up-item n d i h)
+  give_up-pending n d i h =
+      rw (give_up-item n d i h)
       (by_cases (concerned b n d (item_at b i))
       (λ e. rw e (by_cases (computing_on n (record_at b d)) (λ f. rw f) (λ f. rw f)))
       (λ e. rw e))

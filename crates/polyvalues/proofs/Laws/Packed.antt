@@ -18,7 +18,7 @@ use Rattle.polyvalues.specs.Polyvalues.{each, most_pairs, sound, WellFormed, wel
 use Rattle.polyvalues.proofs.Laws.Values.{equal-true}
 use Rattle.polyvalues.proofs.Laws.Holds.{same-pair}
 use Rattle.polyvalues.proofs.Laws.Paired.{rows-packed, packed-is, rows_long}
-use Rattle.polyvalues.proofs.Laws.WellFormed.{well-formed-true, true-well-formed}
+use Rattle.polyvalues.proofs.Laws.WellFormed.{well_formed-true, true-well_formed}
 
 pub in_use-packed : (ps : List Pair) → in_use (packed ps) ≡ ps
 unfolding in_use packed
@@ -54,11 +54,11 @@ packed-tidy q c all t =
 
 pub packed-sound : (w : ℕ) (ps : List Pair) → WellFormed w ps → sound w (packed ps) ≡ true
 unfolding sound packed
-packed-sound w ps f = ap₂ ◌&&◌ (le-leb (length ps) most_pairs f.few) (ap₂ ◌&&◌ (tidy-packed ps) (ap (well_formed w) (in_use-packed ps) ∙ well-formed-true w ps f))
+packed-sound w ps f = ap₂ ◌&&◌ (le-leb (length ps) most_pairs f.few) (ap₂ ◌&&◌ (tidy-packed ps) (ap (well_formed w) (in_use-packed ps) ∙ well_formed-true w ps f))
 
-pub sound-well-formed : (w : ℕ) (q : Polyvalue) → sound w q ≡ true → WellFormed w (in_use q)
+pub sound-well_formed : (w : ℕ) (q : Polyvalue) → sound w q ≡ true → WellFormed w (in_use q)
 unfolding sound
-sound-well-formed w q e = true-well-formed w (in_use q) (and_right (tidy q) _ (and_right (leb q.count most_pairs) _ e))
+sound-well_formed w q e = true-well_formed w (in_use q) (and_right (tidy q) _ (and_right (leb q.count most_pairs) _ e))
 
 -- a sound polyvalue is known by its pairs
 pub sound-packed : (w : ℕ) (q : Polyvalue) → AllRows q → sound w q ≡ true → packed (in_use q) ≡ q

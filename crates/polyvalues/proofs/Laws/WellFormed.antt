@@ -25,9 +25,9 @@ use Rattle.polyvalues.proofs.Laws.Room.{select-count}
 
 -- ---- the test
 
-pub well-formed-true : (w : ℕ) (ps : List Pair) → WellFormed w ps → well_formed w ps ≡ true
+pub well_formed-true : (w : ℕ) (ps : List Pair) → WellFormed w ps → well_formed w ps ≡ true
 unfolding well_formed
-well-formed-true w ps f =
+well_formed-true w ps f =
     rw (
       f.complete.simple.rising,
       f.complete.simple.conditions,
@@ -37,9 +37,9 @@ well-formed-true w ps f =
       f.values,
     )
 
-pub true-well-formed : (w : ℕ) (ps : List Pair) → well_formed w ps ≡ true → WellFormed w ps
+pub true-well_formed : (w : ℕ) (ps : List Pair) → well_formed w ps ≡ true → WellFormed w ps
 unfolding well_formed
-true-well-formed w ps e =
+true-well_formed w ps e =
     let f = six (rises ps) (each (proper w) ps) (all (2 ^ w) (λ a. eqb (hits ps a) 1)) (leb 1 (length ps)) (leb (length ps) most_pairs) _ e in
     record {
       complete = record {
@@ -68,26 +68,26 @@ pub complete-some : (w : ℕ) (ps : List Pair) → Complete w ps → 1 ≤ lengt
 complete-some w [] c = absurd (omega (arith, c.once 0 (pow_pos w)))
 complete-some w (p ∷ ps) c = omega arith
 
-pub canon-well-formed : (w : ℕ) (f : ℕ → ℤ) → ((a : ℕ) → a < 2 ^ w → in_range (f a) ≡ true) → length (canon w f) ≤ most_pairs → WellFormed w (canon w f)
-canon-well-formed w f range few =
+pub canon-well_formed : (w : ℕ) (f : ℕ → ℤ) → ((a : ℕ) → a < 2 ^ w → in_range (f a) ≡ true) → length (canon w f) ≤ most_pairs → WellFormed w (canon w f)
+canon-well_formed w f range few =
     record { complete = canon-complete w f; some = complete-some w (canon w f) (canon-complete w f); few = few; values = canon-values w f range }
 
-pub certain-well-formed : (w : ℕ) (v : ℤ) → in_range v ≡ true → WellFormed w (certain w v)
+pub certain-well_formed : (w : ℕ) (v : ℤ) → in_range v ≡ true → WellFormed w (certain w v)
 unfolding certain
-certain-well-formed w v e =
-    rw (certain-canon w v) (canon-well-formed w (λ a. v) (λ a h. e) (omega (arith, ap length (certain-canon w v))))
+certain-well_formed w v e =
+    rw (certain-canon w v) (canon-well_formed w (λ a. v) (λ a h. e) (omega (arith, ap length (certain-canon w v))))
 
-pub reduce-well-formed : (w i : ℕ) (b : Bool) (ps : List Pair) → WellFormed w ps → WellFormed w (reduce w i b ps)
-reduce-well-formed w i b ps f =
+pub reduce-well_formed : (w i : ℕ) (b : Bool) (ps : List Pair) → WellFormed w ps → WellFormed w (reduce w i b ps)
+reduce-well_formed w i b ps f =
     let few : length (reduce w i b ps) ≤ most_pairs = omega (arith, reduce-count w i b ps) in
     rw (reduce-canon w i b ps f.complete)
-    (canon-well-formed w _ (λ a h. at-range ps (with_place w a i b) f.values) (rw (reduce-canon w i b ps f.complete) at few))
+    (canon-well_formed w _ (λ a h. at-range ps (with_place w a i b) f.values) (rw (reduce-canon w i b ps f.complete) at few))
 
-pub select-well-formed : (w i : ℕ) (done gone : List Pair) → WellFormed w done → WellFormed w gone → together done gone ≤ most_pairs → WellFormed w (select w i done gone)
-select-well-formed w i done gone d g h =
+pub select-well_formed : (w i : ℕ) (done gone : List Pair) → WellFormed w done → WellFormed w gone → together done gone ≤ most_pairs → WellFormed w (select w i done gone)
+select-well_formed w i done gone d g h =
     let few : length (select w i done gone) ≤ most_pairs = omega (arith, select-count w i done gone) in
     let form = select-canon w i done gone d.complete g.complete in
-    rw form (canon-well-formed w _ (λ a h. either (member a i) a) (rw form at few))
+    rw form (canon-well_formed w _ (λ a h. either (member a i) a) (rw form at few))
   where
     either : (x : Bool) (a : ℕ) → in_range (cond x (at done a) (at gone a)) ≡ true
     either true a = at-range done a d.values

@@ -10,14 +10,14 @@ use Rattle.polyvalues.specs.Polyvalues.{in_use, fitted}
 use Rattle.polyvalues.specs.Simplify.{simplified_from}
 use Rattle.polyvalues.specs.Operations.{cut}
 use Rattle.polyvalues.proofs.Known.{Held, held-long}
-use Rattle.polyvalues.proofs.Inserting.{in-use-le, fitted-yes, fitted-no}
+use Rattle.polyvalues.proofs.Inserting.{in_use-le, fitted-yes, fitted-no}
 use Rattle.polyvalues.proofs.Joining.{turn-fits, turn-full}
 use Rattle.polyvalues.proofs.operations.join_rows.Goals as goal
 
 pub loop-i-init : goal.loop-i-init
 loop-i-init c =
     let held : Held c.args.start = record { values = _; own = c.well_formed.0 } in
-    (omega arith, c.requires, in-use-le c.args.start (held-long held), refl)
+    (omega arith, c.requires, in_use-le c.args.start (held-long held), refl)
 
 pub row-row-requires : goal.row-row-requires
 row-row-requires c = omega (arith, c.len-n.ensures.upper_bound)

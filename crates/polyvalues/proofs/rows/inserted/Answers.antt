@@ -9,11 +9,11 @@ use mir.Val.{SFits}
 use Rattle.conditions.specs.Places.{places}
 use Rattle.polyvalues.specs.Polyvalues.{most_pairs, in_use}
 use Rattle.polyvalues.proofs.Known.{Held, all-rows, held-long}
-use Rattle.polyvalues.proofs.Inserting.{in-use-le, has-lt, tidy-count, inserted_same, inserted-none, inserted_new}
+use Rattle.polyvalues.proofs.Inserting.{in_use-le, has-lt, tidy-count, inserted_same, inserted-none, inserted_new}
 use Rattle.polyvalues.proofs.rows.inserted.Goals as goal
 
 few : (s : goal.Start) → length (in_use s.args.q) ≤ most_pairs
-few s = let held : Held s.args.q = record { values = _; own = s.well_formed.0 } in in-use-le s.args.q (held-long held)
+few s = let held : Held s.args.q = record { values = _; own = s.well_formed.0 } in in_use-le s.args.q (held-long held)
 
 count-le : (s : goal.Start) → s.args.q.count ≤ most_pairs
 count-le s = omega (arith, few s, tidy-count s.args.q s.requires)

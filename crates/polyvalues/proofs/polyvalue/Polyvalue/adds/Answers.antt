@@ -12,12 +12,12 @@ use Rattle.polyvalues.specs.Pairs.{no_pair}
 use Rattle.polyvalues.specs.Polyvalues.{most_pairs, in_use}
 use Rattle.polyvalues.specs.Operations.{occurs}
 use Rattle.polyvalues.proofs.Known.{Held, held-long}
-use Rattle.polyvalues.proofs.Inserting.{in-use-le, in-use-row}
+use Rattle.polyvalues.proofs.Inserting.{in_use-le, in_use-row}
 use Rattle.polyvalues.proofs.Comparing.{adds-is}
 use Rattle.polyvalues.proofs.polyvalue.Polyvalue.adds.Goals as goal
 
 few : (s : goal.Start) → length (in_use s.args.self) ≤ most_pairs
-few s = let held : Held s.args.self = record { values = _; own = s.well_formed.0 } in in-use-le s.args.self (held-long held)
+few s = let held : Held s.args.self = record { values = _; own = s.well_formed.0 } in in_use-le s.args.self (held-long held)
 
 -- row i's value, the rows after it, and the other polyvalue's
 abbrev value : goal.Start → ℤ
@@ -31,7 +31,7 @@ others s = in_use s.args.other
 
 -- what the code finds of its value among others
 found : (c : goal.After-row-row) (l : List Pair) {r : Bool} → r ≡ occurs c.row-row.result.value l → occurs (value c.before) l ≡ r
-found c l e = ap (λ (p : Pair). occurs p.value l) (in-use-row c.args.self c.args.i c.row-row.ensures c.requires) ∙ sym e
+found c l e = ap (λ (p : Pair). occurs p.value l) (in_use-row c.args.self c.args.i c.row-row.ensures c.requires) ∙ sym e
 
 pub row-row-requires : goal.row-row-requires
 row-row-requires c = omega (arith, few c, c.requires)

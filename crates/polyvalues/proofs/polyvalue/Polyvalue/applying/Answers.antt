@@ -3,7 +3,7 @@ use native.Mathlib.Numerals.{add-one}
 use native.Mathlib.Omega.{arith}
 use lib.ListN.{drop_of_length-le}
 use Rattle.polyvalues.specs.Polyvalues.{in_use}
-use Rattle.polyvalues.proofs.Joining.{in-use-more}
+use Rattle.polyvalues.proofs.Joining.{in_use-more}
 use Rattle.polyvalues.proofs.polyvalue.Polyvalue.applying.Goals as goal
 
 pub loop-i-init : goal.loop-i-init
@@ -13,13 +13,13 @@ pub row-row-requires : goal.row-row-requires
 row-row-requires c = omega (arith, c.len-n.ensures.upper_bound)
 
 pub returns-then-contains : goal.returns-then-contains
-returns-then-contains c = rw (in-use-more c.args.self c.loop-i.i c.row-row.ensures (omega (arith, c.len-n.ensures.value)), sym c.contains.ensures ∙ c.if-contains.true) at c.loop-i.invariant
+returns-then-contains c = rw (in_use-more c.args.self c.loop-i.i c.row-row.ensures (omega (arith, c.len-n.ensures.value)), sym c.contains.ensures ∙ c.if-contains.true) at c.loop-i.invariant
 
 pub loop-i-smaller : goal.loop-i-smaller
 loop-i-smaller c = omega arith
 
 pub loop-i-preserved : goal.loop-i-preserved
-loop-i-preserved c = rw add-one (rw (in-use-more c.args.self c.loop-i.i c.row-row.ensures (omega (arith, c.len-n.ensures.value)), sym c.contains.ensures ∙ c.if-contains.false) at c.loop-i.invariant)
+loop-i-preserved c = rw add-one (rw (in_use-more c.args.self c.loop-i.i c.row-row.ensures (omega (arith, c.len-n.ensures.value)), sym c.contains.ensures ∙ c.if-contains.false) at c.loop-i.invariant)
 
 pub returns : goal.returns
 returns c = rw (drop_of_length-le (in_use c.args.self) {i = c.loop-i.i} (omega (arith, c.len-n.ensures.value))) at c.loop-i.invariant

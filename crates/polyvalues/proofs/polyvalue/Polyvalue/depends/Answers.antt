@@ -4,7 +4,7 @@ use native.Mathlib.Omega.{arith}
 use lib.ListN.{drop_of_length-le}
 use Rattle.polyvalues.specs.Pairs.{depends}
 use Rattle.polyvalues.specs.Polyvalues.{in_use}
-use Rattle.polyvalues.proofs.Joining.{in-use-more}
+use Rattle.polyvalues.proofs.Joining.{in_use-more}
 use Rattle.polyvalues.proofs.polyvalue.Polyvalue.depends.Goals as goal
 
 pub loop-i-init : goal.loop-i-init
@@ -15,14 +15,14 @@ row-row-requires c = omega (arith, c.len-n.ensures.upper_bound)
 
 pub returns-then-depends : goal.returns-then-depends
 unfolding depends
-returns-then-depends c = rw (in-use-more c.args.self c.loop-i.i c.row-row.ensures (omega (arith, c.len-n.ensures.value)), sym c.depends.ensures ∙ c.if-depends.true) at c.loop-i.invariant.1
+returns-then-depends c = rw (in_use-more c.args.self c.loop-i.i c.row-row.ensures (omega (arith, c.len-n.ensures.value)), sym c.depends.ensures ∙ c.if-depends.true) at c.loop-i.invariant.1
 
 pub loop-i-smaller : goal.loop-i-smaller
 loop-i-smaller c = omega arith
 
 pub loop-i-preserved : goal.loop-i-preserved
 unfolding depends
-loop-i-preserved c = (omega arith, rw add-one (rw (in-use-more c.args.self c.loop-i.i c.row-row.ensures (omega (arith, c.len-n.ensures.value)), sym c.depends.ensures ∙ c.if-depends.false) at c.loop-i.invariant.1))
+loop-i-preserved c = (omega arith, rw add-one (rw (in_use-more c.args.self c.loop-i.i c.row-row.ensures (omega (arith, c.len-n.ensures.value)), sym c.depends.ensures ∙ c.if-depends.false) at c.loop-i.invariant.1))
 
 pub returns : goal.returns
 unfolding depends

@@ -7,7 +7,7 @@ use borrow.Author.Tests.{not-true, not-false}
 use Rattle.conditions.proofs.Laws.Conditions.{always-full}
 use Rattle.polyvalues.specs.Polyvalues.{in_use}
 use Rattle.polyvalues.specs.Checked.{checked_from}
-use Rattle.polyvalues.proofs.Joining.{in-use-more}
+use Rattle.polyvalues.proofs.Joining.{in_use-more}
 use Rattle.polyvalues.proofs.polyvalue.Polyvalue.is_checked.Goals as goal
 
 pub loop-i-init : goal.loop-i-init
@@ -18,7 +18,7 @@ row-row-requires c = omega (arith, c.len-n.ensures.upper_bound)
 
 pub returns-then-not-follows : goal.returns-then-not-follows
 unfolding checked_from
-returns-then-not-follows c = rw (in-use-more c.args.self c.loop-i.i c.row-row.ensures (omega (arith, c.len-n.ensures.value)), sym c.follows.ensures ∙ not-true _ c.if-not-follows.true-raw) at c.loop-i.invariant
+returns-then-not-follows c = rw (in_use-more c.args.self c.loop-i.i c.row-row.ensures (omega (arith, c.len-n.ensures.value)), sym c.follows.ensures ∙ not-true _ c.if-not-follows.true-raw) at c.loop-i.invariant
 
 pub loop-i-smaller : goal.loop-i-smaller
 loop-i-smaller c = omega arith
@@ -27,7 +27,7 @@ pub loop-i-preserved : goal.loop-i-preserved
 unfolding checked_from
 loop-i-preserved c =
     rw (add-one, c.union-covered.ensures)
-    (rw (in-use-more c.args.self c.loop-i.i c.row-row.ensures (omega (arith, c.len-n.ensures.value)), sym c.follows.ensures ∙ not-false _ c.if-not-follows.false-raw) at c.loop-i.invariant)
+    (rw (in_use-more c.args.self c.loop-i.i c.row-row.ensures (omega (arith, c.len-n.ensures.value)), sym c.follows.ensures ∙ not-false _ c.if-not-follows.false-raw) at c.loop-i.invariant)
 
 pub returns : goal.returns
 unfolding checked_from

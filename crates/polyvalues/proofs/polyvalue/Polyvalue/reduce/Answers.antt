@@ -3,7 +3,7 @@ use Rattle.conditions.specs.Places.{places}
 use Rattle.polyvalues.specs.declared.operations.Cut.TheVariants.{Reduced}
 use Rattle.polyvalues.specs.Operations.{cut, reduce}
 use Rattle.polyvalues.proofs.Known.{Held, held-long}
-use Rattle.polyvalues.proofs.Inserting.{in-use-le}
+use Rattle.polyvalues.proofs.Inserting.{in_use-le}
 use Rattle.polyvalues.proofs.Joining.{packed-again, changed-rows}
 use Rattle.polyvalues.proofs.polyvalue.Polyvalue.reduce.Goals as goal
 
@@ -14,4 +14,4 @@ pub returns : goal.returns
 unfolding reduce
 returns c =
     let held : Held c.args.self = record { values = _; own = c.well_formed.0 } in
-    changed-rows places (cut places _ (Reduced _)) c.nothing.ensures c.args.self (in-use-le c.args.self (held-long held)) c.join_rows.ensures
+    changed-rows places (cut places _ (Reduced _)) c.nothing.ensures c.args.self (in_use-le c.args.self (held-long held)) c.join_rows.ensures

@@ -4,7 +4,7 @@ use native.Mathlib.Omega.{arith}
 use lib.ListN.{drop_of_length-le}
 use borrow.Author.Tests.{not-true, not-false}
 use Rattle.polyvalues.specs.Polyvalues.{in_use}
-use Rattle.polyvalues.proofs.Joining.{in-use-more}
+use Rattle.polyvalues.proofs.Joining.{in_use-more}
 use Rattle.polyvalues.proofs.Comparing.{same_not}
 use Rattle.polyvalues.proofs.polyvalue.Polyvalue.same.Goals as goal
 
@@ -23,8 +23,8 @@ row-twin-requires c = omega (arith, c.len-n.ensures.upper_bound)
 pub returns-then-not-same : goal.returns-then-not-same
 returns-then-not-same c =
     rw (
-      in-use-more c.args.self c.loop-i.i c.row-row.ensures (omega (arith, c.len-n.ensures.value)),
-      in-use-more c.args.other c.loop-i.i c.row-twin.ensures (omega (arith, c.loop-i.invariant.0)),
+      in_use-more c.args.self c.loop-i.i c.row-row.ensures (omega (arith, c.len-n.ensures.value)),
+      in_use-more c.args.other c.loop-i.i c.row-twin.ensures (omega (arith, c.loop-i.invariant.0)),
       sym c.same.ensures ∙ not-true _ c.if-not-same.true-raw,
     ) at c.loop-i.invariant.1
 
@@ -35,8 +35,8 @@ pub loop-i-preserved : goal.loop-i-preserved
 loop-i-preserved c = (
   c.loop-i.invariant.0,
   rw add-one (rw (
-    in-use-more c.args.self c.loop-i.i c.row-row.ensures (omega (arith, c.len-n.ensures.value)),
-    in-use-more c.args.other c.loop-i.i c.row-twin.ensures (omega (arith, c.loop-i.invariant.0)),
+    in_use-more c.args.self c.loop-i.i c.row-row.ensures (omega (arith, c.len-n.ensures.value)),
+    in_use-more c.args.other c.loop-i.i c.row-twin.ensures (omega (arith, c.loop-i.invariant.0)),
     sym c.same.ensures ∙ not-false _ c.if-not-same.false-raw,
   ) at c.loop-i.invariant.1),
 )
