@@ -1,5 +1,8 @@
 -- Each section in its turn; the first that is wrong decides.
 use mathlib.Core.Path.{◌∙◌}
+use Prim.Native.Nat.{◌<◌}
+use native.Mathlib.Omega.{arith}
+use lib.ListN.{length}
 use Rattle.conditions.specs.Places.{places}
 use Rattle.book.specs.Openings.{openings_of}
 use Rattle.book.proofs.Laws.Openings.{rows-opened}
@@ -25,7 +28,9 @@ returns-then-not-events c = c.refused-then-not-events.ensures ∙ malformed plac
 
 pub returns-then-end-n : goal.returns-then-end-n
 unfolding sheet
-returns-then-end-n c = c.refused-then-end-n.ensures ∙ malformed places _ c.if-n-gt-MOST_BYTES.false (rw (went-right c.districts-districts.ensures c.if-not-districts.false, went-right c.items-items.ensures.told c.if-not-items.false, went-right c.events-events.ensures.1 c.if-not-events.false) (end-left _ _ _ c.if-end-n.true))
+returns-then-end-n c =
+    let left : c.events-events.result.place < length c.args.sheet.now = omega arith in
+    c.refused-then-end-n.ensures ∙ malformed places _ c.if-n-gt-MOST_BYTES.false (rw (went-right c.districts-districts.ensures c.if-not-districts.false, went-right c.items-items.ensures.told c.if-not-items.false, went-right c.events-events.ensures.1 c.if-not-events.false) (end-left _ _ _ left))
 
 pub returns : goal.returns
 unfolding sheet

@@ -9,9 +9,6 @@ returns-then-sheet-at c = record {
   number_bound = omega arith;
 }
 
--- LOST cast-t7 : tie.Need-overflow-cast-t7
--- LOST cast-t7 c = omega (arith, c.shared-slice-known.given c.before.before.args.at)
-
 pub returns : goal.returns
 returns c = record {
   told = record { is = byte-there _ _ c.if-sheet-at.false };

@@ -12,12 +12,6 @@ returns-then-left-lt2 c = record {
   number_bound = omega arith;
 }
 
--- LOST cast-high : tie.Need-overflow-cast-high
--- LOST cast-high c = omega (arith, c.shared-slice-known2.given c.before.before.before.before.args.at)
-
--- LOST cast-low : tie.Need-overflow-cast-low
--- LOST cast-low c = omega (arith, c.shared-slice-known3.given (c.before.before.before.before.before.args.at + 1))
-
 pub overflow_mul-result : goal.overflow_mul-result
 overflow_mul-result c = record { fits = omega (arith, c.shared_slice_known-3-1.given c.args.at) }
 
