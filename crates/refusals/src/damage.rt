@@ -6,7 +6,7 @@ use crate::print::answers;
 use book::{Book, Item, Open, Record};
 use conditions::TransactionNumber;
 use polyvalues::Polyvalue;
-use std::io;
+use std::fmt;
 
 // The rows with another one at an index.
 pub(crate) fn with_row<T: Copy, const N: usize>(rows: [T; N], i: usize, row: T) -> [T; N] {
@@ -57,50 +57,43 @@ pub(crate) fn with_pending(b: Book, i: usize, p: Polyvalue) -> Book {
 }
 
 // "1 to 8 districts, 1 to 32 items"
-pub(crate) fn counts(rt: &impl Print, b: Book) -> io::Result<()> {
-    answers(rt, "sound", b)?;
+pub(crate) fn counts(b: Book) -> fmt::Result {
+    answers("sound", b)?;
     let mut a = b;
     a.districts = 0;
-    answers(rt, "no district", a)?;
+    answers("no district", a)?;
     a.districts = 9;
-    answers(rt, "nine districts", a)?;
+    answers("nine districts", a)?;
     a = b;
     a.count = 0;
-    answers(rt, "no item", a)?;
+    answers("no item", a)?;
     a.count = 33;
-    answers(rt, "33 items", a)
+    answers("33 items", a)
 }
 
 // "Each item belongs to one district", "rows past the counts .. hold zeros", "nothing depends on a free
 // place", "in an idle district pending equals held; in a busy one neither depends on its own
 // transaction, and held and pending .. have at most 8 different values together"
-pub(crate) fn items(rt: &impl Print, b: Book) -> io::Result<()> {
+pub(crate) fn items(b: Book) -> fmt::Result {
     let mut x = b.items[0];
     x.district = 4;
-    answers(rt, "item of no district", with_item(b, 0, x))?;
+    answers("item of no district", with_item(b, 0, x))?;
     x = b.items[31];
     x.district = 1;
-    answers(rt, "row past the items", with_item(b, 31, x))?;
-    answers(rt, "held on a free place", with_held(b, 2, two_values(5)))?;
+    answers("row past the items", with_item(b, 31, x))?;
+    answers("held on a free place", with_held(b, 2, two_values(5)))?;
+    answers("pending on a free place", with_pending(b, 2, two_values(5)))?;
     answers(
-        rt,
-        "pending on a free place",
-        with_pending(b, 2, two_values(5)),
-    )?;
-    answers(
-        rt,
         "idle, pending not held",
         with_pending(b, 0, Polyvalue::certain(4)),
     )?;
-    answers(rt, "held on its own", with_held(b, 2, two_values(1)))?;
-    answers(rt, "pending on its own", with_pending(b, 2, two_values(1)))?;
+    answers("held on its own", with_held(b, 2, two_values(1)))?;
+    answers("pending on its own", with_pending(b, 2, two_values(1)))?;
     answers(
-        rt,
         "eight values together",
         with_pending(with_held(b, 2, Polyvalue::certain(7)), 2, eight_values()),
     )?;
     answers(
-        rt,
         "nine values together",
         with_pending(with_held(b, 2, Polyvalue::certain(8)), 2, eight_values()),
     )
@@ -108,80 +101,80 @@ pub(crate) fn items(rt: &impl Print, b: Book) -> io::Result<()> {
 
 // "idle (0), computing (1) or waiting (2)", "rows past the counts .. hold zeros", "an idle record names
 // transaction 0", "a busy district is on an open transaction"
-pub(crate) fn records(rt: &impl Print, b: Book) -> io::Result<()> {
+pub(crate) fn records(b: Book) -> fmt::Result {
     let first = TransactionNumber(1);
     let not_open = TransactionNumber(9);
     let mut r = b.records[2];
     r.phase = 3;
-    answers(rt, "phase 3", with_record(b, 2, r))?;
+    answers("phase 3", with_record(b, 2, r))?;
     r = b.records[7];
     r.transaction = first;
-    answers(rt, "row past the districts", with_record(b, 7, r))?;
+    answers("row past the districts", with_record(b, 7, r))?;
     r = b.records[0];
     r.transaction = first;
-    answers(rt, "idle on a transaction", with_record(b, 0, r))?;
+    answers("idle on a transaction", with_record(b, 0, r))?;
     r = b.records[2];
     r.transaction = not_open;
-    answers(rt, "busy on none open", with_record(b, 2, r))
+    answers("busy on none open", with_record(b, 2, r))
 }
 
 // "free places hold zeros", "open numbers differ, are at least 1 and none exceeds the last given", "its
 // decision (0 none, 1 completed, 2 aborted)", "a decided open transaction has a district on it or a
 // polyvalue that depends on its place", "a completed transaction has every touched district ready"
-pub(crate) fn places(rt: &impl Print, b: Book) -> io::Result<()> {
+pub(crate) fn places(b: Book) -> fmt::Result {
     let first = TransactionNumber(1);
     let not_given = TransactionNumber(5);
     let mut o = b.open[5];
     o.touched = 1;
-    answers(rt, "free place not zero", with_open(b, 5, o))?;
+    answers("free place not zero", with_open(b, 5, o))?;
     o = b.open[2];
     o.number = first;
-    answers(rt, "number twice", with_open(b, 2, o))?;
+    answers("number twice", with_open(b, 2, o))?;
     o.number = not_given;
-    answers(rt, "number not given", with_open(b, 2, o))?;
+    answers("number not given", with_open(b, 2, o))?;
     o = b.open[1];
     o.decision = 3;
-    answers(rt, "decision 3", with_open(b, 1, o))?;
+    answers("decision 3", with_open(b, 1, o))?;
     o = b.open[2];
     o.decision = 2;
-    answers(rt, "decided and not needed", with_open(b, 2, o))?;
+    answers("decided and not needed", with_open(b, 2, o))?;
     o = b.open[1];
     o.decision = 1;
-    answers(rt, "completed, not ready", with_open(b, 1, o))
+    answers("completed, not ready", with_open(b, 1, o))
 }
 
 // Districts below the count in each set, "a busy district is on an open transaction that touches it;
 // waiting districts are in its ready set, computing ones in neither set; ready and gave-up sets are
 // apart and within touched"
-pub(crate) fn sets(rt: &impl Print, b: Book) -> io::Result<()> {
+pub(crate) fn sets(b: Book) -> fmt::Result {
     let mut o = b.open[2];
     o.touched = 17;
-    answers(rt, "touched, no district", with_open(b, 2, o))?;
+    answers("touched, no district", with_open(b, 2, o))?;
     o = b.open[2];
     o.ready = 16;
-    answers(rt, "ready, no district", with_open(b, 2, o))?;
+    answers("ready, no district", with_open(b, 2, o))?;
     o = b.open[2];
     o.gave = 17;
-    answers(rt, "gave up, no district", with_open(b, 2, o))?;
+    answers("gave up, no district", with_open(b, 2, o))?;
     o = b.open[1];
     o.touched = 8;
-    answers(rt, "busy, not touched", with_open(b, 1, o))?;
+    answers("busy, not touched", with_open(b, 1, o))?;
     o = b.open[0];
     o.ready = 1;
-    answers(rt, "waiting, not ready", with_open(b, 0, o))?;
+    answers("waiting, not ready", with_open(b, 0, o))?;
     o = b.open[1];
     o.ready = 4;
-    answers(rt, "computing, ready", with_open(b, 1, o))?;
+    answers("computing, ready", with_open(b, 1, o))?;
     o = b.open[1];
     o.gave = 4;
-    answers(rt, "computing, gave up", with_open(b, 1, o))?;
+    answers("computing, gave up", with_open(b, 1, o))?;
     o = b.open[0];
     o.gave = 1;
-    answers(rt, "ready and gave up", with_open(b, 0, o))?;
+    answers("ready and gave up", with_open(b, 0, o))?;
     o = b.open[2];
     o.ready = 2;
-    answers(rt, "ready, not touched", with_open(b, 2, o))?;
+    answers("ready, not touched", with_open(b, 2, o))?;
     o = b.open[2];
     o.gave = 3;
-    answers(rt, "gave up, not touched", with_open(b, 2, o))
+    answers("gave up, not touched", with_open(b, 2, o))
 }

@@ -4,7 +4,8 @@
 // number (7), nor ask a list of pairs (2). What stands in `stdout` is what must come out.
 #![tactic(auto)]
 
-use std::io;
+use book::Book;
+use std::fmt;
 
 mod asked;
 mod damage;
@@ -14,15 +15,19 @@ mod polyvalue;
 mod print;
 mod short;
 
-fn main(rt: HostRuntime) -> io::Result<()> {
-    let b = morning::book();
-    damage::counts(&rt, b)?;
-    damage::items(&rt, b)?;
-    damage::records(&rt, b)?;
-    damage::places(&rt, b)?;
-    damage::sets(&rt, b)?;
-    polyvalue::damage(&rt, b)?;
-    short::buffers(&rt, b)?;
-    numbers::last(&rt, b)?;
-    asked::lists(&rt)
+// Asks for all of them.
+fn asked_for(b: Book) -> fmt::Result {
+    damage::counts(b)?;
+    damage::items(b)?;
+    damage::records(b)?;
+    damage::places(b)?;
+    damage::sets(b)?;
+    polyvalue::damage(b)?;
+    short::buffers(b)?;
+    numbers::last(b)?;
+    asked::lists()
+}
+
+fn main() {
+    let _ = asked_for(morning::book());
 }

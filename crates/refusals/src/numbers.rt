@@ -1,17 +1,18 @@
 // 7: number 65,535 has been given. 3, 2, 5 and 6 come before it, 8 after it.
 use crate::damage::{with_held, with_pending};
 use crate::polyvalue::eight_values;
-use crate::print::Numbers;
+use crate::print::{Numbers, Output};
 use book::Book;
 use conditions::TransactionNumber;
-use std::io;
+use std::fmt::{self, Write};
 
 // Begins the program, where this number is the last given, and prints the answer, the number and the grant.
-fn begun_after(rt: &impl Print, b: Book, last: u16, program: &[u8]) -> io::Result<()> {
+fn begun_after(b: Book, last: u16, program: &[u8]) -> fmt::Result {
     let mut a = b;
     a.last = TransactionNumber(last);
     let r = a.begin(program);
-    println!(rt;
+    writeln!(
+        Output,
         "last {last}{} {} {}",
         Numbers([r.answer]),
         r.number.0,
@@ -19,18 +20,18 @@ fn begun_after(rt: &impl Print, b: Book, last: u16, program: &[u8]) -> io::Resul
     )
 }
 
-pub(crate) fn last(rt: &impl Print, b: Book) -> io::Result<()> {
-    begun_after(rt, b, 65534, b"\x02\x00\x00\x01")?;
-    begun_after(rt, b, 65535, b"\x02\x00\x00\x01")?;
-    begun_after(rt, b, 65535, b"\x05\x00\x00\x01")?;
-    begun_after(rt, b, 65535, b"\x02\x04\x00\x01")?;
-    begun_after(rt, b, 65535, b"\x02\x02\x00\x01")?;
+pub(crate) fn last(b: Book) -> fmt::Result {
+    begun_after(b, 65534, b"\x02\x00\x00\x01")?;
+    begun_after(b, 65535, b"\x02\x00\x00\x01")?;
+    begun_after(b, 65535, b"\x05\x00\x00\x01")?;
+    begun_after(b, 65535, b"\x02\x04\x00\x01")?;
+    begun_after(b, 65535, b"\x02\x02\x00\x01")?;
     let many = with_pending(with_held(b, 0, eight_values()), 0, eight_values());
-    begun_after(rt, many, 65534, b"\x02\x00\x00\x01")?;
-    begun_after(rt, many, 65535, b"\x02\x00\x00\x01")?;
+    begun_after(many, 65534, b"\x02\x00\x00\x01")?;
+    begun_after(many, 65535, b"\x02\x00\x00\x01")?;
     let five = b.begin(b"\x02\x00\x00\x00").book;
     let idle = five.give_up(TransactionNumber(5), 0).book;
     let six = idle.begin(b"\x02\x00\x00\x00").book;
     let full = six.give_up(TransactionNumber(6), 0).book;
-    begun_after(rt, full, 65535, b"\x02\x00\x00\x01")
+    begun_after(full, 65535, b"\x02\x00\x00\x01")
 }

@@ -5,7 +5,7 @@ use crate::print::answers;
 use book::Book;
 use conditions::{Condition, Place};
 use polyvalues::Polyvalue;
-use std::io;
+use std::fmt;
 
 // The first values where the place completes, the second where it aborts.
 fn either(place: usize, done: Polyvalue, gone: Polyvalue) -> Polyvalue {
@@ -40,48 +40,42 @@ fn with_pair(p: Polyvalue, i: usize, value: i16, condition: Condition) -> Polyva
     q
 }
 
-pub(crate) fn damage(rt: &impl Print, b: Book) -> io::Result<()> {
+pub(crate) fn damage(b: Book) -> fmt::Result {
     let good = two_values(0);
     let done = Condition::completed(Place(0));
     let gone = done.complement();
-    answers(rt, "two pairs", with_held(b, 2, good))?;
+    answers("two pairs", with_held(b, 2, good))?;
     let mut p = good;
     p.count = 0;
-    answers(rt, "no pair", with_held(b, 2, p))?;
+    answers("no pair", with_held(b, 2, p))?;
     p.count = 9;
-    answers(rt, "nine pairs", with_held(b, 2, p))?;
+    answers("nine pairs", with_held(b, 2, p))?;
     answers(
-        rt,
         "value too high",
         with_held(b, 2, with_pair(good, 1, 10000, gone)),
     )?;
     answers(
-        rt,
         "value too low",
         with_held(b, 2, with_pair(good, 0, -10000, done)),
     )?;
     answers(
-        rt,
         "values not rising",
         with_held(b, 2, with_pair(good, 0, 3, done)),
     )?;
     let mut empty = with_pair(Polyvalue::certain(0), 1, 3, Condition::EMPTY);
     empty.count = 2;
-    answers(rt, "condition empty", with_held(b, 2, empty))?;
+    answers("condition empty", with_held(b, 2, empty))?;
     answers(
-        rt,
         "in no condition",
         with_held(b, 2, with_pair(good, 0, 0, Condition::EMPTY)),
     )?;
     answers(
-        rt,
         "in two conditions",
         with_held(b, 2, with_pair(good, 0, 0, Condition::FULL)),
     )?;
     answers(
-        rt,
         "row past the pairs",
         with_held(b, 2, with_pair(good, 7, 1, Condition::EMPTY)),
     )?;
-    answers(rt, "pending, no pair", with_pending(b, 2, p))
+    answers("pending, no pair", with_pending(b, 2, p))
 }
