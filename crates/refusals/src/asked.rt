@@ -2,7 +2,7 @@
 // applies.
 use crate::print;
 use conditions::{ASSIGNMENTS, Condition, Place};
-use polyvalues::{Asked, Polyvalue};
+use polyvalues::Polyvalue;
 
 // Asks the pairs for their value under the assignment.
 fn value_under(p: Polyvalue, assignment: usize) {
@@ -10,8 +10,8 @@ fn value_under(p: Polyvalue, assignment: usize) {
     print::number(p.count as u64);
     print::number(assignment as u64);
     match p.value_under(assignment) {
-        Asked::Value(_) => print::number(0),
-        Asked::Refused => print::number(2),
+        Some(_) => print::number(0),
+        None => print::number(2),
     }
     print::line_end();
 }
