@@ -8,7 +8,7 @@ ghost use Rattle.book.specs.States.{state_of, state_rows, added, stepped};
 use crate::Step;
 use crate::steps::{ADD, COPY, NEED, SET, numbered};
 use crate::tables::ITEMS;
-use polyvalues::{Added, below, sum};
+use polyvalues::{below, sum};
 
 // A value of an item.
 #[derive(Clone, Copy)]
@@ -45,11 +45,11 @@ impl State {
     {
         let before = old.0;
         match sum(before, operand) {
-            Added::Value(v) => Stepped {
+            Some(v) => Stepped {
                 declines: false,
                 state: self.with(item, Value(v)),
             },
-            Added::Declined => Stepped {
+            None => Stepped {
                 declines: true,
                 state: self,
             },

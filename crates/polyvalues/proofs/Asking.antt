@@ -2,7 +2,7 @@
 use mathlib.Core.Path.{◌≡◌, sym, ◌∙◌}
 use mathlib.Core.Bool.{cond, and-false}
 use mathlib.Core.List.{List, [], ◌∷◌}
-use mathlib.Core.Option.{Option, none}
+use Rattle.std.specs.Prelude.{Option, None}
 use Prim.Native.Nat.{ℕ, suc, ◌+◌, ◌^◌, ◌<◌}
 use native.Mathlib.Nat.{zero-add, add-zero}
 use native.Mathlib.Numerals.{add-one}
@@ -27,7 +27,7 @@ abbrev pub left : Scan → List Pair → ℕ → Option ℤ
 left s ps a = only places a (s.hits + hits ps a) (cond (eqb s.hits 0) (at ps a) s.value)
 
 -- unless exactly one applies, it is refused
-not-one : (a n : ℕ) (v : ℤ) → (n ≡ 1 → ⊥) → only places a n v ≡ none
+not-one : (a n : ℕ) (v : ℤ) → (n ≡ 1 → ⊥) → only places a n v ≡ None
 not-one a n v h = rw (ne_eqb n 1 h, and-false (ltb a (2 ^ places)))
 
 pub left-all : (ps : List Pair) (a : ℕ) → left unseen ps a ≡ asked places ps a

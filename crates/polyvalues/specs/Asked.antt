@@ -1,22 +1,14 @@
--- "A lent list of pairs can be asked for its value under one assignment." (document 01, The book) The answer as the code gives it, and the scan that finds it.
-use Rattle.std.specs.Prelude.{cond, ℕ, eqb, ℤ, pos}
-use Rattle.std.proofs.Math.Option.{Option, none, some}
+-- "A lent list of pairs can be asked for its value under one assignment." (document 01, The book) The document's number of the answer, and the scan that finds it.
+use Rattle.std.specs.Prelude.{cond, Option, Some, None, ℕ, eqb, ℤ, pos}
 use Rattle.conditions.specs.Places.{places}
 use Rattle.polyvalues.specs.declared.polyvalue.Pair.{Pair}
-use Rattle.polyvalues.specs.declared.scan.Asked.{Asked}
-use Rattle.polyvalues.specs.declared.scan.Asked.TheVariants.{Value, Refused}
 use Rattle.polyvalues.specs.declared.scan.Scan.{Scan}
 use Rattle.polyvalues.specs.Pairs.{applies, only}
 
--- what is asked, as the code says it
-abbrev pub asked_as : Option ℤ → Asked
-asked_as (some v) = Value v
-asked_as none = Refused
-
 -- the document's number for each answer: 0 accepted, "It refuses (2)"
-abbrev pub asked_number : Asked → ℕ
-asked_number (Value v) = 0
-asked_number Refused = 2
+abbrev pub asked_number : Option ℤ → ℕ
+asked_number (Some v) = 0
+asked_number None = 2
 
 -- ---- the scan: how many pairs apply, where 2 is more than one, and the value of the first that does
 

@@ -4,17 +4,10 @@ ghost use Rattle.std.specs.Prelude.{◌≡◌, ◌<◌, length, get_or};
 ghost use Rattle.conditions.specs.Places.{places};
 ghost use Rattle.polyvalues.specs.Pairs.{no_pair, asked};
 ghost use Rattle.polyvalues.specs.Polyvalues.{in_use};
-ghost use Rattle.polyvalues.specs.Asked.{asked_as, unseen, counted, found};
+ghost use Rattle.polyvalues.specs.Asked.{unseen, counted, found};
 
 use crate::{Pair, Polyvalue};
 use conditions::ASSIGNMENTS;
-
-// The value of the one pair that applies, if exactly one does.
-#[derive(Clone, Copy)]
-pub enum Asked {
-    Value(i16),
-    Refused,
-}
 
 // How many of the pairs so far apply, where 2 is more than one, and the value of the first that
 // does.
@@ -51,16 +44,16 @@ fn step(scan: Scan, pair: Pair, assignment: usize) -> Scan
 }
 
 // What the pairs of the scan say.
-fn finish(scan: Scan, assignment: usize) -> Asked
-    ensures { result ≡ asked_as (found scan assignment) }
+fn finish(scan: Scan, assignment: usize) -> Option<i16>
+    ensures { result ≡ found scan assignment }
 {
     if ASSIGNMENTS <= assignment {
-        return Asked::Refused;
+        return None;
     }
     if scan.hits == 1 {
-        return Asked::Value(scan.value);
+        return Some(scan.value);
     }
-    Asked::Refused
+    None
 }
 
 // The pair at row i.
@@ -71,9 +64,9 @@ fn pair_at(pairs: &[Pair], i: usize) -> Pair
     pairs[i]
 }
 
-// The value of a lent list of pairs under the assignment.
-pub fn value_under(pairs: &[Pair], assignment: usize) -> Asked
-    ensures { result ≡ asked_as (asked places pairs.now assignment) }
+// The value of a lent list of pairs under the assignment, if exactly one applies.
+pub fn value_under(pairs: &[Pair], assignment: usize) -> Option<i16>
+    ensures { result ≡ asked places pairs.now assignment }
 {
     let n = pairs.len();
     let mut scan = start();
@@ -88,8 +81,8 @@ pub fn value_under(pairs: &[Pair], assignment: usize) -> Asked
 
 impl Polyvalue {
     // The same of its own pairs. Code that has a polyvalue calls this one.
-    pub fn value_under(self, assignment: usize) -> Asked
-        ensures { result ≡ asked_as (asked places (in_use self) assignment) }
+    pub fn value_under(self, assignment: usize) -> Option<i16>
+        ensures { result ≡ asked places (in_use self) assignment }
     {
         let n = self.len();
         let mut scan = start();

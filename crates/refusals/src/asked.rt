@@ -2,14 +2,14 @@
 // applies.
 use crate::print::Output;
 use conditions::{ASSIGNMENTS, Condition, Place};
-use polyvalues::{Asked, Polyvalue};
+use polyvalues::Polyvalue;
 use std::fmt::{self, Write};
 
 // Asks the pairs for their value under the assignment.
 fn value_under(p: Polyvalue, assignment: usize) -> fmt::Result {
     let number = match p.value_under(assignment) {
-        Asked::Value(_) => 0,
-        Asked::Refused => 2,
+        Some(_) => 0,
+        None => 2,
     };
     writeln!(Output, "pairs {} {assignment} {number}", p.count)
 }

@@ -4,12 +4,15 @@ use crate::damage::{with_held, with_pending, with_row};
 use crate::print::answers;
 use book::Book;
 use conditions::{Condition, Place};
-use polyvalues::Polyvalue;
+use polyvalues::{NinthValue, Polyvalue};
 use std::fmt;
 
 // The first values where the place completes, the second where it aborts.
 fn either(place: usize, done: Polyvalue, gone: Polyvalue) -> Polyvalue {
-    Polyvalue::select(Place(place), done, gone).polyvalue
+    match Polyvalue::select(Place(place), done, gone) {
+        Ok(both) => both,
+        Err(NinthValue(gone)) => gone,
+    }
 }
 
 // 0 where the place completes, 3 where it aborts.

@@ -4,7 +4,7 @@ use native.Mathlib.Omega.{arith}
 use lib.ListN.{drop}
 use Rattle.polyvalues.specs.declared.scan.Scan.{Scan}
 use Rattle.polyvalues.specs.declared.polyvalue.Pair.{Pair}
-use Rattle.polyvalues.specs.Asked.{asked_as, counted}
+use Rattle.polyvalues.specs.Asked.{counted}
 use Rattle.polyvalues.proofs.Asking.{left, left-all, left_end, left-next}
 use Rattle.polyvalues.proofs.scan.value_under.Goals as goal
 
@@ -25,4 +25,4 @@ pub returns : goal.returns
 returns c =
     let at-loop = c.loop-i in
     let a = c.args in
-    c.finish.ensures ∙ ap asked_as (sym (left_end a.pairs.now at-loop.i a.assignment at-loop.scan (omega arith)) ∙ at-loop.invariant.1)
+    c.finish.ensures ∙ sym (left_end a.pairs.now at-loop.i a.assignment at-loop.scan (omega arith)) ∙ at-loop.invariant.1

@@ -4,7 +4,6 @@ use native.Mathlib.Omega.{arith}
 use lib.ListN.{drop}
 use Rattle.polyvalues.specs.declared.scan.Scan.{Scan}
 use Rattle.polyvalues.specs.Polyvalues.{in_use}
-use Rattle.polyvalues.specs.Asked.{asked_as}
 use Rattle.polyvalues.proofs.Asking.{left, left-all, left_end, left-row}
 use Rattle.polyvalues.proofs.polyvalue.Polyvalue.value_under.Goals as goal
 
@@ -30,4 +29,4 @@ pub returns : goal.returns
 returns c =
     let at-loop = c.loop-i in
     let a = c.args in
-    c.finish.ensures ∙ ap asked_as (sym (left_end (in_use a.self) at-loop.i a.assignment at-loop.scan (omega (arith, c.len-n.ensures.value))) ∙ at-loop.invariant.1)
+    c.finish.ensures ∙ sym (left_end (in_use a.self) at-loop.i a.assignment at-loop.scan (omega (arith, c.len-n.ensures.value))) ∙ at-loop.invariant.1
