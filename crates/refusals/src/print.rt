@@ -1,5 +1,5 @@
 // What is printed: words and numbers, and the answers of all calls on a book.
-use book::{Answer, Book};
+use book::{Answer, Book, answer_number};
 use conditions::TransactionNumber;
 
 pub(crate) fn word(text: &[u8]) {
@@ -12,7 +12,7 @@ pub(crate) fn number(n: u64) {
 }
 
 pub(crate) fn answer(a: Answer) {
-    number(a.number() as u64);
+    number(answer_number(a) as u64);
 }
 
 pub(crate) fn line_end() {
@@ -45,7 +45,6 @@ pub(crate) fn answers(name: &[u8], b: Book) {
     let heard = b.hear(TransactionNumber(1), 1).answer;
     answer(heard);
     let mut line = [0u8; 64];
-    let shown = b.show(0, &mut line).answer;
-    answer(shown);
+    answer(b.show(0, &mut line).map(|_| ()));
     line_end();
 }

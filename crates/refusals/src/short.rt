@@ -6,8 +6,7 @@ use book::Book;
 fn shown(b: Book, buf: &mut [u8]) {
     print::word(b"buffer");
     print::number(buf.len() as u64);
-    let a = b.show(0, buf).answer;
-    print::answer(a);
+    print::answer(b.show(0, buf).map(|_| ()));
     print::word(b" ");
     print::word(buf);
     print::line_end();

@@ -7,8 +7,7 @@ use Rattle.conditions.specs.declared.text.Written.{Written}
 use Rattle.conditions.specs.declared.text.Written.TheVariants.{To, NoRoom}
 use Rattle.conditions.specs.Text.{bytes, decimal, joined}
 use Rattle.conditions.specs.Written.{written}
-use Rattle.book.specs.declared.Answer.{Answer}
-use Rattle.book.specs.Answers.{answer_number, accepted}
+use Rattle.book.specs.Answers.{Answer, answer_number, accepted}
 
 -- a line: its fields, one space apart, and a line feed
 unfoldable pub line : List (List ℕ) → List ℕ
