@@ -9,8 +9,8 @@ use lib.ListN.{get_or, set}
 use Rattle.conditions.specs.Sets.{member, set_of}
 use Rattle.conditions.proofs.Laws.Sets.{member-set_of}
 use Rattle.polyvalues.specs.declared.polyvalue.Polyvalue.{Polyvalue}
-use Rattle.book.specs.declared.Answer.{Answer}
-use Rattle.book.specs.declared.Answer.TheVariants.{NotIdle, AllOpen, NumbersGiven, TooManyValues}
+use Rattle.book.specs.declared.Refusal.{Refusal}
+use Rattle.book.specs.declared.Refusal.TheVariants.{NotIdle, AllOpen, NumbersGiven, TooManyValues}
 use Rattle.book.specs.declared.Begun.{Begun}
 use Rattle.book.specs.declared.Book.{Book}
 use Rattle.book.specs.declared.Item.{Item}
@@ -58,7 +58,7 @@ begun-is w b xs {s = s} few en es er eq =
 -- ---- its answer, for a sound book and a good program whose items are in the table
 
 -- the tests that are left: 5, 6, 7, 8
-abbrev pub later : ℕ → Book → List Step → List (Bool × Answer)
+abbrev pub later : ℕ → Book → List Step → List (Bool × Refusal)
 later w b xs = (some_busy b xs, NotIdle) ∷ (not (ltb (free_place w b) w), AllOpen) ∷ (not (ltb b.last.0 last_number), NumbersGiven) ∷ (too_many w b xs, TooManyValues) ∷ []
 
 pub begin-later : (w : ℕ) (b : Book) (bytes : List ℕ) {xs : List Step} {r : Begun} → sound w b ≡ true → bad_program bytes ≡ false → steps bytes ≡ xs → some_step (outside b.count) xs ≡ false

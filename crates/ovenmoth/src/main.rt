@@ -75,7 +75,7 @@ fn refuse(answer: Answer, place: usize, out: &mut [u8]) {
 fn print(sheet: &[u8], out: &mut [u8]) {
     let opened = open(sheet);
     let answer = opened.answer;
-    if answer.number() != 0 {
+    if answer.is_err() {
         refuse(answer, opened.place, out);
         return;
     }

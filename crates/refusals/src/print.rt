@@ -1,5 +1,5 @@
 // What is printed: the answers of all calls on a book, a name before them.
-use book::{Answer, Book};
+use book::{Answer, Book, answer_number};
 use conditions::TransactionNumber;
 use std::fmt::{self, Write};
 
@@ -22,7 +22,7 @@ pub(crate) struct Numbers<const N: usize>(pub(crate) [Answer; N]);
 impl<const N: usize> fmt::Display for Numbers<N> {
     fn fmt<W: fmt::Write>(&self, f: &mut fmt::Formatter<W>) -> fmt::Result {
         for answer in &self.0 {
-            write!(f, " {}", answer.number())?;
+            write!(f, " {}", answer_number(*answer))?;
         }
         Ok(())
     }
@@ -38,7 +38,7 @@ pub(crate) fn answers(name: &str, b: Book) -> fmt::Result {
         b.complete(TransactionNumber(2)).answer,
         b.abort(TransactionNumber(2)).answer,
         b.hear(TransactionNumber(1), 1).answer,
-        b.show(0, &mut line).answer,
+        b.show(0, &mut line).map(|_| ()),
     ];
     writeln!(Output, "{name}{}", Numbers(all))
 }

@@ -5,7 +5,7 @@ use std::fmt::{self, Write};
 
 // Shows item 0 into these bytes, and prints what has become of them.
 fn shown(b: Book, buf: &mut [u8]) -> fmt::Result {
-    let answer = b.show(0, buf).answer;
+    let answer = b.show(0, buf).map(|_| ());
     let text = str::from_utf8(buf).unwrap_or("no text");
     writeln!(Output, "buffer {}{} {text}", buf.len(), Numbers([answer]))
 }

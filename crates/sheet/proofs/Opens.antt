@@ -4,7 +4,8 @@ use mathlib.Core.List.{List, []}
 use Prim.Native.Nat.{ℕ, ◌≤◌, ◌<◌}
 use lib.ListN.{length}
 use borrow.Author.Tests.{lt-ltb, le-ltb}
-use Rattle.book.specs.declared.Answer.TheVariants.{Accepted, Malformed, TooLong}
+use Rattle.std.specs.Prelude.{Ok}
+use Rattle.book.specs.declared.Refusal.TheVariants.{Malformed, TooLong}
 use Rattle.book.specs.declared.Book.{Book}
 use Rattle.book.specs.Open.{opened}
 use Rattle.sheet.specs.Readers.{wrong, right}
@@ -22,7 +23,7 @@ module _ (w : ℕ) (s : List ℕ) where
     malformed e = rw (le-ltb most_bytes (length s) few, e)
 
     pub good : (x : Sheet) (at : ℕ) {b : Book} → sheet s ≡ right x at [] → b ≡ opened w x.districts x.items
-        → record { answer = Accepted; place = 0; book = b; first = x.events.first; count = x.events.count } ≡ open_sheet w s
+        → record { answer = Ok tt; place = 0; book = b; first = x.events.first; count = x.events.count } ≡ open_sheet w s
     unfolding open_sheet opened_sheet
     good x at e is =
-        rw (le-ltb most_bytes (length s) few, e) (λ k. record { answer = Accepted; place = 0; book = is k; first = x.events.first; count = x.events.count })
+        rw (le-ltb most_bytes (length s) few, e) (λ k. record { answer = Ok tt; place = 0; book = is k; first = x.events.first; count = x.events.count })

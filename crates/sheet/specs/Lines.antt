@@ -6,8 +6,7 @@ use Prim.Native.Char.{code}
 use Rattle.conditions.specs.declared.text.NoRoom.{NoRoom}
 use Rattle.conditions.specs.Text.{bytes, decimal, joined}
 use Rattle.conditions.specs.Written.{no_room, written}
-use Rattle.book.specs.declared.Answer.{Answer}
-use Rattle.book.specs.Answers.{answer_number, accepted}
+use Rattle.book.specs.Answers.{Answer, answer_number, accepted}
 
 -- a line: its fields, one space apart, and a line feed
 unfoldable pub line : List (List ℕ) → List ℕ

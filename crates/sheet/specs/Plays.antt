@@ -3,8 +3,7 @@ use Rattle.std.specs.Prelude.{◌≡◌, List, [], ◌∷◌, ℕ, length, Ok}
 use Prim.Native.Char.{code}
 use Rattle.conditions.specs.Text.{decimal, joined}
 use Rattle.conditions.specs.Written.{written}
-use Rattle.book.specs.declared.Answer.{Answer}
-use Rattle.book.specs.Answers.{answer_number}
+use Rattle.book.specs.Answers.{Answer, answer_number}
 use Rattle.sheet.specs.declared.playing.Played.{Played}
 use Rattle.sheet.specs.Play.{EventResult, result_line}
 

@@ -5,7 +5,7 @@ ghost use Rattle.conditions.specs.Written.{Put};
 ghost use Rattle.sheet.specs.Lines.{event_line, refusal_line, line_answer, line_written};
 ghost use Rattle.sheet.specs.Plays.{field, head};
 
-use book::Answer;
+use book::{Answer, answer_number};
 use conditions::{NoRoom, write_decimal};
 
 // What show is lent.
@@ -49,7 +49,7 @@ pub(crate) fn put_head(buf: &mut [u8], position: u64, answer: Answer) -> usize
     ensures upper_bound { result ≤ 41 }
 {
     let at = put_decimal(buf, 0, position);
-    put_field(buf, at, answer.number() as u64)
+    put_field(buf, at, answer_number(answer) as u64)
 }
 
 // Puts the line of an event that prints nothing after its answer number.
@@ -75,7 +75,7 @@ pub fn write_refusal(answer: Answer, place: u64, buf: &mut [u8]) -> Result<usize
     let e = put_byte(buf, h, b'e');
     let f = put_byte(buf, e, b'e');
     let t = put_byte(buf, f, b't');
-    let number = put_field(buf, t, answer.number() as u64);
+    let number = put_field(buf, t, answer_number(answer) as u64);
     let end = put_field(buf, number, place);
     Ok(put_byte(buf, end, b'\n'))
 }

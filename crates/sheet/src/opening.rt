@@ -4,7 +4,7 @@ ghost use Rattle.conditions.specs.Places.{places};
 ghost use Rattle.sheet.specs.Open.{refused, open_sheet};
 
 use crate::sections::{districts, events, items};
-use book::{Answer, Book, opened, zero_book};
+use book::{Answer, Book, Refusal, opened, zero_book};
 
 // How many bytes a sheet may have.
 pub const MOST_BYTES: usize = 32768;
@@ -21,11 +21,11 @@ pub struct Opened {
 }
 
 // What a refused sheet gives.
-fn refused(answer: Answer, place: usize) -> Opened
-    ensures { result ≡ refused places answer place }
+fn refused(refusal: Refusal, place: usize) -> Opened
+    ensures { result ≡ refused places refusal place }
 {
     Opened {
-        answer,
+        answer: Err(refusal),
         place,
         book: zero_book(),
         first: 0,
@@ -39,27 +39,27 @@ pub fn open(sheet: &[u8]) -> Opened
 {
     let n = sheet.len();
     if MOST_BYTES < n {
-        return refused(Answer::TooLong, 0);
+        return refused(Refusal::TooLong, 0);
     }
     let districts = districts(sheet);
     if !districts.good {
-        return refused(Answer::Malformed, districts.place);
+        return refused(Refusal::Malformed, districts.place);
     }
     let items = items(sheet, districts.place, districts.number);
     if !items.good {
-        return refused(Answer::Malformed, items.place);
+        return refused(Refusal::Malformed, items.place);
     }
     let events = events(sheet, items.place);
     if !events.good {
-        return refused(Answer::Malformed, events.place);
+        return refused(Refusal::Malformed, events.place);
     }
     let end = events.place;
     if end < n {
-        return refused(Answer::Malformed, end);
+        return refused(Refusal::Malformed, end);
     }
     let openings = items.items;
     Opened {
-        answer: Answer::Accepted,
+        answer: Ok(()),
         place: 0,
         book: opened(districts.number, openings),
         first: events.first,

@@ -2,7 +2,7 @@
 use mathlib.Core.Path.{sym, ◌∙◌}
 use native.Mathlib.Omega.{arith}
 use Rattle.conditions.specs.Places.{places}
-use Rattle.book.specs.declared.Answer.TheVariants.{Accepted}
+use Rattle.std.specs.Prelude.{Ok}
 use Rattle.book.specs.Begin.{begun}
 use Rattle.book.specs.States.{steps_of}
 use Rattle.book.proofs.Known.{Held, records-long, items-long, open-long}
@@ -34,4 +34,4 @@ returns c =
     let few = sym c.too_many.ensures ∙ c.if-too_many.false in
     let granted = c.granted-grant.ensures ∙ c.in-Some.ensures.granted in
     let left = c.begun-after.ensures ∙ sym (begin-forgets-none places b (steps_of c.args.p) (test-sound places b pre.b_value.0) pre.b_value.1 (omega (arith, pre.q_value.0, pre.q_value.1)) (records-long held) (items-long held) (open-long held)) in
-    rw few (λ k. record { answer = Accepted; number = (c.begun-after.ensures k).last; grant = granted k; book = left k })
+    rw few (λ k. record { answer = Ok tt; number = (c.begun-after.ensures k).last; grant = granted k; book = left k })
