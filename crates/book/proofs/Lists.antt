@@ -9,13 +9,17 @@ use lib.Dec.{ltb}
 use borrow.Author.Tests.{lt-ltb, le-ltb}
 use native.Mathlib.Decide.{dec_lt}
 use lib.ListN.{length, get_or, take}
-use Rattle.std.specs.List.{list_any, list_all, position_or_len}
+use lib.Seq.{take-length}
+use native.Mathlib.Nat.{zero-add}
+use Rattle.std.specs.List.{list_any, list_all, position_or_len, enumerate_from, range_with_len}
 use Rattle.std.specs.Option.{unwrap_or}
 use Rattle.std.proofs.Common.{Option, Some, None}
-use Rattle.std.proofs.lemmas.Grind.{common_steps}
 use Rattle.std.proofs.lemmas.List.Folds.{list_any_more, list_all_more}
 use Rattle.std.proofs.lemmas.List.Sums.{prefix_len-le-length}
+use Rattle.std.proofs.lemmas.List.FromFn.{length-enumerate_from, get_or-enumerate_from, length-range_with_len, get_or-range_with_len}
+use Rattle.std.proofs.lemmas.List.{length-take-le, get_or-take}
 use Rattle.conditions.specs.Below.{any, all, first}
+use Rattle.conditions.proofs.Laws.Below.{all_same}
 
 pub any_rows : {A : Type 0} (p : A → Bool) (z : A) (n : ℕ) (xs : List A) → n ≤ length xs → list_any p (take n xs) ≡ any n (λ i. p (get_or xs i z))
 unfolding any
@@ -52,3 +56,43 @@ found_row p z xs {o} {k} {r} long e f =
         go : Dec (n < length xs) → unwrap_or (cond (ltb n (length xs)) (Some n) None) k ≡ n
         go (yes l) = rw (lt-ltb n (length xs) l)
         go (no l) = let past : length xs ≤ n = omega arith in rw (le-ltb n (length xs) past) (omega arith)
+
+-- ---- rows with their numbers beside them
+
+any_same : (k : ℕ) (f g : ℕ → Bool) → ((i : ℕ) → i < k → f i ≡ g i) → any k f ≡ any k g
+unfolding any
+any_same zero f g e = refl
+any_same (suc k) f g e = ap₂ ◌||◌ (any_same k f g (λ i h. e i (omega arith))) (e k (omega arith))
+
+module _ {A : Type 0} (z : A) (n : ℕ) (xs : List A) (h : n ≤ length xs) where
+  numbered : List (ℕ × A)
+  numbered = enumerate_from 0 (take n xs)
+
+  long : length numbered ≡ n
+  unfolding numbered
+  long = length-enumerate_from 0 (take n xs) ∙ length-take-le n xs h
+
+  row : (i : ℕ) → i < n → get_or numbered i (0, z) ≡ (i, get_or xs i z)
+  unfolding numbered
+  row i l = get_or-enumerate_from 0 (take n xs) i (0, z) (omega (arith, length-take-le n xs h)) ∙ ap₂ (λ (k : ℕ) (x : A). (k, x)) (zero-add i) (get_or-take n xs i z l)
+
+  all_of_them : take n numbered ≡ numbered
+  all_of_them = ap (λ (k : ℕ). take k numbered) (sym long) ∙ take-length numbered
+
+  pub any_numbered : (p : (ℕ × A) → Bool) → list_any p (enumerate_from 0 (take n xs)) ≡ any n (λ i. p (i, get_or xs i z))
+  unfolding numbered
+  any_numbered p =
+      ap (list_any p) (sym all_of_them) ∙ any_rows p (0, z) n numbered (omega (arith, long)) ∙ any_same n _ _ (λ i l. ap p (row i l))
+
+  pub all_numbered : (p : (ℕ × A) → Bool) → list_all p (enumerate_from 0 (take n xs)) ≡ all n (λ i. p (i, get_or xs i z))
+  unfolding numbered
+  all_numbered p =
+      ap (list_all p) (sym all_of_them) ∙ all_rows p (0, z) n numbered (omega (arith, long)) ∙ all_same n _ _ (λ i l. ap p (row i l))
+
+-- ---- the numbers themselves
+
+pub all_range : (p : ℕ → Bool) (n : ℕ) → list_all p (range_with_len 0 n) ≡ all n p
+all_range p n =
+    let long = length-range_with_len 0 n in
+    let them : take n (range_with_len 0 n) ≡ range_with_len 0 n = ap (λ (k : ℕ). take k (range_with_len 0 n)) (sym long) ∙ take-length (range_with_len 0 n) in
+    ap (list_all p) (sym them) ∙ all_rows p 0 n (range_with_len 0 n) (omega (arith, long)) ∙ all_same n _ _ (λ i l. ap p (get_or-range_with_len 0 n i 0 l ∙ zero-add i))

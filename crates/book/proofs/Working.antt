@@ -4,7 +4,7 @@ use mathlib.Core.Bool.{Bool, true, false, not, ◌&&◌, ◌||◌, true≢false,
 use mathlib.Core.List.{List, []}
 use Prim.Native.Nat.{ℕ, suc, ◌^◌, ◌≤◌, ◌<◌}
 use native.Mathlib.Omega.{arith}
-use lib.Dec.{ltb}
+use lib.Dec.{eqb, ltb}
 use lib.IntN.{ℤ}
 use lib.ListN.{length, get_or, set, length-set, get_or-replicate}
 use lib.Seq.{get_or-set_same, get_or-set_other}
@@ -18,6 +18,8 @@ use Rattle.conditions.specs.Conditions.{number, full, union, intersection, compl
 use Rattle.conditions.proofs.Laws.Below.{by_cases, all-at, all_more, all-fails, all-not, none_any, any_of, first-le, first_passes, before-first}
 use Rattle.conditions.proofs.Laws.Sets.{member-none, same-members}
 use Rattle.conditions.proofs.Laws.Conditions.{member-full, member_union, member-complement, full-lt, union-lt}
+use Rattle.std.specs.Result.{is_ok}
+use Rattle.std.proofs.Common.{Result}
 use Rattle.polyvalues.specs.declared.polyvalue.Pair.{Pair}
 use Rattle.polyvalues.specs.declared.polyvalue.Polyvalue.{Polyvalue}
 use Rattle.polyvalues.specs.declared.polyvalue.Joined.{Joined}
@@ -33,7 +35,7 @@ use Rattle.polyvalues.proofs.Inserting.{fits-yes, fits-no}
 use Rattle.book.specs.declared.Book.{Book}
 use Rattle.book.specs.declared.Step.{Step}
 use Rattle.book.specs.declared.state.State.{State}
-use Rattle.book.specs.declared.program.Ran.{Ran}
+use Rattle.book.specs.declared.program.Declined.{Declined}
 use Rattle.book.specs.declared.alternatives.Alternative.{Alternative}
 use Rattle.book.specs.declared.alternatives.Spread.{Spread}
 use Rattle.book.specs.declared.alternatives.Worked.{Worked}
@@ -48,7 +50,7 @@ use Rattle.book.proofs.Laws.Sound.{test-sound}
 use Rattle.book.proofs.Laws.Alternatives.{Chosen, InTable, block-own, join-block, declines-more, grants-more, grant-is}
 use Rattle.book.proofs.Laws.Touched.{touched-below}
 use Rattle.book.proofs.States.{state-row}
-use Rattle.book.proofs.Running.{ran-value}
+use Rattle.book.proofs.Running.{ran-well, run-value}
 
 -- ---- an alternative, item by item
 
@@ -122,27 +124,27 @@ sound-one : (b : Book) → sound places b ≡ true → Chosen places b
 sound-one b e i h a l = (sound-well_formed places (item_at b i).held ((test-sound places b e).held i h)).complete.once a l
 
 module _ (b : Book) (xs : List Step) (sure : sound places b ≡ true) (inside : some_step (outside b.count) xs ≡ false) (a : ℕ) (ha : a < 2 ^ places)
-    {t : Worked} (so_far : Covers places b xs t) (s : State) (starts : StartsAs b xs a b.count s) {e : Ran} (ends : e ≡ ran xs (state_of s)) where
+    {t : Worked} (so_far : Covers places b xs t) (s : State) (starts : StartsAs b xs a b.count s) {e : Result (Unit {0}) Declined} (ends : e ≡ ran xs (state_of s))
+    {after : State} (leaves : after ≡ state_rows (run xs (state_of s))) where
   table : InTable b xs
   table i u = touched-below b.count xs i inside u
 
   agree : (i : ℕ) → touches xs i ≡ true → state_of s i ≡ held_at b a i
   agree i u = starts i (table i u) u
 
-  end-number : e.declined ≡ declined xs (held_at b a)
-  unfolding ran
-  end-number = ap (λ (r : Ran). r.declined) ends ∙ declined-reads xs (state_of s) (held_at b a) agree
+  end-well : is_ok e ≡ eqb (declined xs (held_at b a)) 0
+  end-well = ap is_ok ends ∙ ran-well xs (state_of s) ∙ ap (λ (n : ℕ). eqb n 0) (declined-reads xs (state_of s) (held_at b a) agree)
 
-  end-value : (i : ℕ) → touches xs i ≡ true → state_of e.state i ≡ run xs (held_at b a) i
+  end-value : (i : ℕ) → touches xs i ≡ true → state_of after i ≡ run xs (held_at b a) i
   end-value i u =
-      ap (λ (r : Ran). state_of r.state i) ends ∙ ran-value xs (state_of s) i (omega (arith, table i u, (test-sound places b sure).few_items))
+      ap (λ (t : State). state_of t i) leaves ∙ run-value xs (state_of s) i (omega (arith, table i u, (test-sound places b sure).few_items))
       ∙ run-reads xs (state_of s) (held_at b a) agree i u
 
   -- what a touched item's results are then
   abbrev more : ℕ → List Pair
   more i = canon_over places (λ c. run xs (held_at b c) i) (union places (number t.covered) (block places b xs a))
 
-  row_after-fitted : (i : ℕ) → touches xs i ≡ true → {c : ℕ} → c ≡ block places b xs a → row_after places xs e.state c t.new i ≡ fitted (get_or t.new i void) (more i)
+  row_after-fitted : (i : ℕ) → touches xs i ≡ true → {c : ℕ} → c ≡ block places b xs a → row_after places xs after c t.new i ≡ fitted (get_or t.new i void) (more i)
   unfolding joined_row
   row_after-fitted i u {c} k =
       rw u (ap (fitted (get_or t.new i void)) (
@@ -150,9 +152,9 @@ module _ (b : Book) (xs : List Step) (sure : sound places b ≡ true) (inside : 
       ∙ ap (λ (m : ℕ). join places (run xs (held_at b a) i) m (canon_over places (λ c. run xs (held_at b c) i) (number t.covered))) k
       ∙ join-block places b xs (sound-one b sure) table a ha i (number t.covered) u))
 
-  module _ {c : ℕ} (k : c ≡ block places b xs a) (r : Spread) (fits : r.fits ≡ all b.count (λ i. (row_after places xs e.state c t.new i).fits)) where
+  module _ {c : ℕ} (k : c ≡ block places b xs a) (r : Spread) (fits : r.fits ≡ all b.count (λ i. (row_after places xs after c t.new i).fits)) where
     -- where there is no room for some of an item's results, there is none for all of them
-    over : (i : ℕ) → touches xs i ≡ true → (row_after places xs e.state c t.new i).fits ≡ false → too_many places b xs ≡ true
+    over : (i : ℕ) → touches xs i ≡ true → (row_after places xs after c t.new i).fits ≡ false → too_many places b xs ≡ true
     unfolding too_many results
     over i u f =
         let many : most_pairs < length (more i) = fits-no (get_or t.new i void) (more i) (row_after-fitted i u k) f in
@@ -163,10 +165,10 @@ module _ (b : Book) (xs : List Step) (sure : sound places b ≡ true) (inside : 
     pub no_room : r.fits ≡ false → too_many places b xs ≡ true
     unfolding joined_row
     no_room f =
-        let found = all-not b.count (λ i. (row_after places xs e.state c t.new i).fits) (sym fits ∙ f) in
+        let found = all-not b.count (λ i. (row_after places xs after c t.new i).fits) (sym fits ∙ f) in
         by_cases (touches xs found.0) (λ u. over found.0 u found.2) (λ u. absurd (true≢false (rw u at found.2)))
 
-    covers_more : RowsAfter places xs e.state c t.new b.count r.new → r.fits ≡ true → {v : Condition} → number v ≡ union places (number t.covered) c → {d g : Bool}
+    covers_more : RowsAfter places xs after c t.new b.count r.new → r.fits ≡ true → {v : Condition} → number v ≡ union places (number t.covered) c → {d g : Bool}
         → d ≡ (some_declines places b xs (number t.covered) || declines_at b xs a) → g ≡ (some_grants places b xs (number t.covered) || not (declines_at b xs a))
         → Covers places b xs (record { fits = r.fits; declines = d; grants = g; covered = v; new = r.new })
     covers_more rows f {v} n ds gs =
@@ -174,7 +176,7 @@ module _ (b : Book) (xs : List Step) (sure : sound places b ≡ true) (inside : 
           conditions = rw n (union-lt places (number t.covered) c);
           rows = λ i l u.
               rows i l
-              ∙ (fits-yes (get_or t.new i void) (more i) (row_after-fitted i u k) (all-at b.count (λ i. (row_after places xs e.state c t.new i).fits) (sym fits ∙ f) i l)).0
+              ∙ (fits-yes (get_or t.new i void) (more i) (row_after-fitted i u k) (all-at b.count (λ i. (row_after places xs after c t.new i).fits) (sym fits ∙ f) i l)).0
               ∙ ap (λ (m : ℕ). packed (canon_over places (λ c. run xs (held_at b c) i) m)) (sym all-covered);
           declines = ds ∙ sym (declines-more places b xs (sound-one b sure) table a ha (number t.covered)) ∙ ap (some_declines places b xs) (sym all-covered);
           grants = gs ∙ sym (grants-more places b xs (sound-one b sure) table a ha (number t.covered)) ∙ ap (some_grants places b xs) (sym all-covered);
@@ -183,16 +185,16 @@ module _ (b : Book) (xs : List Step) (sure : sound places b ≡ true) (inside : 
         all-covered : number v ≡ union places (number t.covered) (block places b xs a)
         all-covered = n ∙ ap (union places (number t.covered)) k
 
-    module _ (rows : RowsAfter places xs e.state c t.new b.count r.new) (f : r.fits ≡ true) {v : Condition} (n : number v ≡ union places (number t.covered) c) where
-      pub covers-granted : e.declined ≡ 0 → Covers places b xs (record { fits = r.fits; declines = t.declines; grants = true; covered = v; new = r.new })
+    module _ (rows : RowsAfter places xs after c t.new b.count r.new) (f : r.fits ≡ true) {v : Condition} (n : number v ≡ union places (number t.covered) c) where
+      pub covers-granted : is_ok e ≡ true → Covers places b xs (record { fits = r.fits; declines = t.declines; grants = true; covered = v; new = r.new })
       covers-granted d =
-          let at_a : declines_at b xs a ≡ false = ap not (eq-eqb _ 0 (sym end-number ∙ d)) in
+          let at_a : declines_at b xs a ≡ false = ap not (sym end-well ∙ d) in
           covers_more rows f n (so_far.declines ∙ sym (or-false _) ∙ ap (λ (x : Bool). some_declines places b xs (number t.covered) || x) (sym at_a))
           (sym (or-true (some_grants places b xs (number t.covered))) ∙ ap (λ (x : Bool). some_grants places b xs (number t.covered) || not x) (sym at_a))
 
-      pub covers-declined : (e.declined ≡ 0 → ⊥) → Covers places b xs (record { fits = r.fits; declines = true; grants = t.grants; covered = v; new = r.new })
+      pub covers-declined : is_ok e ≡ false → Covers places b xs (record { fits = r.fits; declines = true; grants = t.grants; covered = v; new = r.new })
       covers-declined d =
-          let at_a : declines_at b xs a ≡ true = ap not (ne_eqb _ 0 (λ q. d (end-number ∙ q))) in
+          let at_a : declines_at b xs a ≡ true = ap not (sym end-well ∙ d) in
           covers_more rows f n (sym (or-true (some_declines places b xs (number t.covered))) ∙ ap (λ (x : Bool). some_declines places b xs (number t.covered) || x) (sym at_a))
           (so_far.grants ∙ sym (or-false _) ∙ ap (λ (x : Bool). some_grants places b xs (number t.covered) || not x) (sym at_a))
 

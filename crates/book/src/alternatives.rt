@@ -144,15 +144,14 @@ impl Worked {
         ensures covers { (b : Book) (a : ℕ) → b.count ≡ count → sound places b ≡ true → a < 2 ^ places → Covers places b (steps_of p) self → number start.condition ≡ block places b (steps_of p) a → StartsAs b (steps_of p) a b.count start.state → (result.fits ≡ true → Covers places b (steps_of p) result) × (result.fits ≡ false → too_many places b (steps_of p) ≡ true) }
     {
         let condition = start.condition;
-        let from = start.state;
-        let end = p.run(from);
-        let state = end.state;
+        let mut state = start.state;
+        let end = p.run(&mut state);
         let old = self.new;
         let spread = joined_in(old, count, p, state, condition);
         let fits = spread.fits;
         let new = spread.new;
         let covered = self.covered.union(condition);
-        if end.declined == 0 {
+        if end.is_ok() {
             let declines = self.declines;
             return Worked {
                 fits,

@@ -55,7 +55,9 @@ pub(crate) fn record_on(r: Record) -> u16
 pub(crate) fn district_on(records: [Record; DISTRICTS], district: u8) -> u16
     ensures { result ≡ record_on (get_or records district no_record) }
 {
-    records.get(usize::from(district)).map_or(0, |r| record_on(*r))
+    records
+        .get(usize::from(district))
+        .map_or(0, |r| record_on(*r))
 }
 
 // Whether a district is on the transaction.
@@ -77,14 +79,20 @@ fn is_named(o: Open, n: TransactionNumber) -> bool
 pub(crate) fn place_of(places: [Open; PLACES], n: TransactionNumber) -> usize
     ensures { result ≡ first place_count (λ q. named n.0 (get_or places q no_open)) }
 {
-    places.iter().position(|o| is_named(*o, n)).unwrap_or(PLACES)
+    places
+        .iter()
+        .position(|o| is_named(*o, n))
+        .unwrap_or(PLACES)
 }
 
 // The lowest free place, or the number of places where none is free.
 pub(crate) fn free_place(places: [Open; PLACES]) -> usize
     ensures { result ≡ first place_count (λ q. not (is_open (get_or places q no_open))) }
 {
-    places.iter().position(|o| o.number.0 == 0).unwrap_or(PLACES)
+    places
+        .iter()
+        .position(|o| o.number.0 == 0)
+        .unwrap_or(PLACES)
 }
 
 // Whether the item's held or pending polyvalue depends on the place.

@@ -1,11 +1,10 @@
 use borrow.Author.Rules.{rules}
 use borrow.Author.Tests.{tests}
 use mathlib.Core.Bool.{not}
-use mathlib.Core.Path.{◌≡◌, ◌∙◌}
 use Rattle.std.proofs.lemmas.Iterator.{YieldsList-from_slice}
 use Rattle.std.proofs.lemmas.Iterator.Search.{position_from_yields_List}
 use Rattle.book.specs.Book.{no_open, is_open}
-use Rattle.book.proofs.Lists.{first_row, found_row}
+use Rattle.book.proofs.Lists.{found_row}
 use Rattle.book.proofs.tables.free_place.Goals as goal
 
 pub returns : goal.returns

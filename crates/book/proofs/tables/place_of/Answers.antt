@@ -1,10 +1,9 @@
 use borrow.Author.Rules.{rules}
 use borrow.Author.Tests.{tests}
-use mathlib.Core.Path.{◌≡◌, ◌∙◌}
 use Rattle.std.proofs.lemmas.Iterator.{YieldsList-from_slice}
 use Rattle.std.proofs.lemmas.Iterator.Search.{position_from_yields_List}
 use Rattle.book.specs.Book.{no_open, named}
-use Rattle.book.proofs.Lists.{first_row, found_row}
+use Rattle.book.proofs.Lists.{found_row}
 use Rattle.book.proofs.tables.place_of.Goals as goal
 
 pub returns : goal.returns

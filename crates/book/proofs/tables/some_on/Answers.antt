@@ -1,6 +1,6 @@
 use borrow.Author.Rules.{rules}
 use borrow.Author.Tests.{tests}
-use mathlib.Core.Path.{◌≡◌, ◌∙◌}
+use mathlib.Core.Path.{◌∙◌}
 use native.Mathlib.Omega.{arith}
 use lib.Dec.{eqb}
 use lib.ListN.{take}

@@ -1,4 +1,5 @@
 -- A run that declines, and one that does not.
+use mathlib.Core.Path.{sym, ◌∙◌}
 use Rattle.book.specs.Book.{most_items}
 use Rattle.book.specs.States.{steps_of}
 use Rattle.book.proofs.Naming.{inside-more}
@@ -11,15 +12,15 @@ run-end-requires c = inside-more c.args.count most_items c.requires.0 (steps_of 
 pub joined_in-spread-requires : goal.joined_in-spread-requires
 joined_in-spread-requires c = c.requires.0
 
-pub returns-then-end-eq0 : goal.returns-then-end-eq0
-returns-then-end-eq0 c =
+pub returns-then-is_ok : goal.returns-then-is_ok
+returns-then-is_ok c =
     let a = c.args in
     let pre = c.requires in
     let spread = c.joined_in-spread in record {
       covered_value = c.union-covered.ensures;
       covers = λ b k e s h covers condition starts. (
-        (λ f. covers-granted b (steps_of a.p) s (rw e pre.1) k h covers a.start.state starts c.run-end.ensures condition spread.result (rw e spread.ensures.fits_value) (rw e (spread.ensures.rows_after f)) f c.union-covered.ensures c.if-end-eq0.true),
-        (λ f. no_room b (steps_of a.p) s (rw e pre.1) k h covers a.start.state starts c.run-end.ensures condition spread.result (rw e spread.ensures.fits_value) f),
+        (λ f. covers-granted b (steps_of a.p) s (rw e pre.1) k h covers a.start.state starts c.run-end.ensures.answer c.run-end.ensures.values condition spread.result (rw e spread.ensures.fits_value) (rw e (spread.ensures.rows_after f)) f c.union-covered.ensures (sym c.is_ok.ensures.value ∙ c.if-is_ok.true)),
+        (λ f. no_room b (steps_of a.p) s (rw e pre.1) k h covers a.start.state starts c.run-end.ensures.answer c.run-end.ensures.values condition spread.result (rw e spread.ensures.fits_value) f),
       );
     }
 
@@ -30,7 +31,7 @@ returns c =
     let spread = c.joined_in-spread in record {
       covered_value = c.union-covered.ensures;
       covers = λ b k e s h covers condition starts. (
-        (λ f. covers-declined b (steps_of a.p) s (rw e pre.1) k h covers a.start.state starts c.run-end.ensures condition spread.result (rw e spread.ensures.fits_value) (rw e (spread.ensures.rows_after f)) f c.union-covered.ensures c.if-end-eq0.false),
-        (λ f. no_room b (steps_of a.p) s (rw e pre.1) k h covers a.start.state starts c.run-end.ensures condition spread.result (rw e spread.ensures.fits_value) f),
+        (λ f. covers-declined b (steps_of a.p) s (rw e pre.1) k h covers a.start.state starts c.run-end.ensures.answer c.run-end.ensures.values condition spread.result (rw e spread.ensures.fits_value) (rw e (spread.ensures.rows_after f)) f c.union-covered.ensures (sym c.is_ok.ensures.value ∙ c.if-is_ok.false)),
+        (λ f. no_room b (steps_of a.p) s (rw e pre.1) k h covers a.start.state starts c.run-end.ensures.answer c.run-end.ensures.values condition spread.result (rw e spread.ensures.fits_value) f),
       );
     }
