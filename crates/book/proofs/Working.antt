@@ -19,6 +19,8 @@ use Rattle.conditions.specs.Conditions.{number, full, union, intersection, compl
 use Rattle.conditions.proofs.Laws.Below.{by_cases, all_more, all-fails, all-not, none_any, any_of, first-le, first_passes, before-first}
 use Rattle.conditions.proofs.Laws.Sets.{member-none, same-members}
 use Rattle.conditions.proofs.Laws.Conditions.{member-full, member_union, member-complement, full-lt, union-lt}
+use Rattle.std.specs.Result.{is_ok}
+use Rattle.std.proofs.Common.{Result}
 use Rattle.polyvalues.specs.declared.polyvalue.Pair.{Pair}
 use Rattle.polyvalues.specs.declared.polyvalue.Polyvalue.{Polyvalue}
 use Rattle.polyvalues.specs.Pairs.{assignments, applying}
@@ -33,7 +35,7 @@ use Rattle.polyvalues.proofs.Inserting.{fits-yes, is_none-full}
 use Rattle.book.specs.declared.Book.{Book}
 use Rattle.book.specs.declared.Step.{Step}
 use Rattle.book.specs.declared.state.State.{State}
-use Rattle.book.specs.declared.program.Ran.{Ran}
+use Rattle.book.specs.declared.program.Declined.{Declined}
 use Rattle.book.specs.declared.alternatives.Alternative.{Alternative}
 use Rattle.book.specs.declared.alternatives.Worked.{Worked}
 use Rattle.book.specs.Book.{most_items, void, item_at}
@@ -47,7 +49,7 @@ use Rattle.book.proofs.Laws.Sound.{test-sound}
 use Rattle.book.proofs.Laws.Alternatives.{Chosen, InTable, block-own, join-block, declines-more, grants-more, grant-is}
 use Rattle.book.proofs.Laws.Touched.{touched-below}
 use Rattle.book.proofs.States.{state-row}
-use Rattle.book.proofs.Running.{ran-value}
+use Rattle.book.proofs.Running.{ran-well, run-value}
 
 -- ---- an alternative, item by item
 
@@ -121,27 +123,27 @@ sound-one : (b : Book) → sound places b ≡ true → Chosen places b
 sound-one b e i h a l = (sound-well_formed places (item_at b i).held ((test-sound places b e).held i h)).complete.once a l
 
 module _ (b : Book) (xs : List Step) (sure : sound places b ≡ true) (inside : some_step (outside b.count) xs ≡ false) (a : ℕ) (ha : a < 2 ^ places)
-    {t : Worked} (so_far : Covers places b xs t) (s : State) (starts : StartsAs b xs a b.count s) {e : Ran} (ends : e ≡ ran xs (state_of s)) where
+    {t : Worked} (so_far : Covers places b xs t) (s : State) (starts : StartsAs b xs a b.count s) {e : Result (Unit {0}) Declined} (ends : e ≡ ran xs (state_of s))
+    {after : State} (leaves : after ≡ state_rows (run xs (state_of s))) where
   table : InTable b xs
   table i u = touched-below b.count xs i inside u
 
   agree : (i : ℕ) → touches xs i ≡ true → state_of s i ≡ held_at b a i
   agree i u = starts i (table i u) u
 
-  end-number : e.declined ≡ declined xs (held_at b a)
-  unfolding ran
-  end-number = ap (λ (r : Ran). r.declined) ends ∙ declined-reads xs (state_of s) (held_at b a) agree
+  end-well : is_ok e ≡ eqb (declined xs (held_at b a)) 0
+  end-well = ap is_ok ends ∙ ran-well xs (state_of s) ∙ ap (λ (n : ℕ). eqb n 0) (declined-reads xs (state_of s) (held_at b a) agree)
 
-  end-value : (i : ℕ) → touches xs i ≡ true → state_of e.state i ≡ run xs (held_at b a) i
+  end-value : (i : ℕ) → touches xs i ≡ true → state_of after i ≡ run xs (held_at b a) i
   end-value i u =
-      ap (λ (r : Ran). state_of r.state i) ends ∙ ran-value xs (state_of s) i (omega (arith, table i u, (test-sound places b sure).few_items))
+      ap (λ (t : State). state_of t i) leaves ∙ run-value xs (state_of s) i (omega (arith, table i u, (test-sound places b sure).few_items))
       ∙ run-reads xs (state_of s) (held_at b a) agree i u
 
   -- what a touched item's results are then
   abbrev more : ℕ → List Pair
   more i = canon_over places (λ c. run xs (held_at b c) i) (union places (number t.covered) (block places b xs a))
 
-  row_after-fitted : (i : ℕ) → touches xs i ≡ true → {c : ℕ} → c ≡ block places b xs a → row_after places xs e.state c t.new i ≡ fitting (more i)
+  row_after-fitted : (i : ℕ) → touches xs i ≡ true → {c : ℕ} → c ≡ block places b xs a → row_after places xs after c t.new i ≡ fitting (more i)
   unfolding joined_row
   row_after-fitted i u {c} k =
       rw u (ap fitting (
@@ -151,7 +153,7 @@ module _ (b : Book) (xs : List Step) (sure : sound places b ≡ true) (inside : 
 
   module _ {c : ℕ} (k : c ≡ block places b xs a) where
     -- where there is no room for some of an item's results, there is none for all of them
-    over : (i : ℕ) → touches xs i ≡ true → is_some (row_after places xs e.state c t.new i) ≡ false → too_many places b xs ≡ true
+    over : (i : ℕ) → touches xs i ≡ true → is_some (row_after places xs after c t.new i) ≡ false → too_many places b xs ≡ true
     unfolding too_many results
     over i u f =
         let many : most_pairs < length (more i) = is_none-full (more i) (rw (row_after-fitted i u k) at f) in
@@ -159,13 +161,13 @@ module _ (b : Book) (xs : List Step) (sure : sound places b ≡ true) (inside : 
         omega (arith, over-count places (λ c. run xs (held_at b c) i) (union places (number t.covered) (block places b xs a)) (in_use (item_at b i).held)) in
         any_of b.count _ i (table i u) (rw u (lt-ltb most_pairs _ all-many))
 
-    pub no_room : false ≡ all b.count (λ i. is_some (row_after places xs e.state c t.new i)) → too_many places b xs ≡ true
+    pub no_room : false ≡ all b.count (λ i. is_some (row_after places xs after c t.new i)) → too_many places b xs ≡ true
     unfolding joined_row
     no_room f =
-        let found = all-not b.count (λ i. is_some (row_after places xs e.state c t.new i)) (sym f) in
+        let found = all-not b.count (λ i. is_some (row_after places xs after c t.new i)) (sym f) in
         by_cases (touches xs found.0) (λ u. over found.0 u found.2) (λ u. absurd (true≢false (rw u at found.2)))
 
-    pub covers_more : {new : List Polyvalue} → RowsAfter places xs e.state c t.new b.count new → {v : Condition} → number v ≡ union places (number t.covered) c → {g : Bool} → g ≡ eqb e.declined 0
+    pub covers_more : {new : List Polyvalue} → RowsAfter places xs after c t.new b.count new → {v : Condition} → number v ≡ union places (number t.covered) c → {g : Bool} → g ≡ is_ok e
         → Covers places b xs (record { declines = t.declines || not g; grants = t.grants || g; covered = v; new = new })
     covers_more rows {v} n {g} is =
         record {
@@ -181,7 +183,7 @@ module _ (b : Book) (xs : List Step) (sure : sound places b ≡ true) (inside : 
         all-covered = n ∙ ap (union places (number t.covered)) k
 
         at_a : not g ≡ declines_at b xs a
-        at_a = ap not (is ∙ ap (λ (m : ℕ). eqb m 0) end-number)
+        at_a = ap not (is ∙ end-well)
 
 -- ---- all alternatives
 

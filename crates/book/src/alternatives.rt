@@ -122,9 +122,10 @@ impl Worked {
         ensures covered_value { IfSome result (λ w. number w.covered ≡ union places (number self.covered) (number start.condition)) }
         ensures covers { (b : Book) (a : ℕ) → b.count ≡ count → sound places b ≡ true → a < 2 ^ places → Covers places b (steps_of p) self → number start.condition ≡ block places b (steps_of p) a → StartsAs b (steps_of p) a b.count start.state → MatchOption result (too_many places b (steps_of p) ≡ true) (λ w. Covers places b (steps_of p) w) }
     {
-        let end = p.run(start.state);
-        let grants = end.declined == 0;
-        let new = joined_in(self.new, count, p, end.state, start.condition)?;
+        let mut state = start.state;
+        let end = p.run(&mut state);
+        let grants = end.is_ok();
+        let new = joined_in(self.new, count, p, state, start.condition)?;
         Some(Worked {
             declines: self.declines | !grants,
             grants: self.grants | grants,

@@ -1,5 +1,4 @@
 -- A run that declines, and one that does not.
-use mathlib.Core.Path.{refl}
 use Rattle.book.specs.Book.{most_items}
 use Rattle.book.specs.States.{steps_of}
 use Rattle.book.proofs.Naming.{inside-more}
@@ -12,9 +11,9 @@ run-end-requires c = inside-more c.args.count most_items c.requires.0 (steps_of 
 pub returns-in_err-new-clause-covers : goal.returns-in_err-new-clause-covers
 returns-in_err-new-clause-covers c b k e s h covers condition starts =
     let a = c.args in
-    rw c.from_residual.ensures (no_room b (steps_of a.p) s (rw e c.requires.1) k h covers a.start.state starts c.run-end.ensures condition (rw e c.in_err-new.ensures.fits_value))
+    rw c.from_residual.ensures (no_room b (steps_of a.p) s (rw e c.requires.1) k h covers a.start.state starts c.run-end.ensures.answer c.run-end.ensures.values condition (rw e c.in_err-new.ensures.fits_value))
 
 pub returns-clause-covers : goal.returns-clause-covers
 returns-clause-covers c b k e s h covers condition starts =
     let a = c.args in
-    covers_more b (steps_of a.p) s (rw e c.requires.1) k h covers a.start.state starts c.run-end.ensures condition (rw e c.in_ok-new.ensures.rows_after) c.union.ensures refl
+    covers_more b (steps_of a.p) s (rw e c.requires.1) k h covers a.start.state starts c.run-end.ensures.answer c.run-end.ensures.values condition (rw e c.in_ok-new.ensures.rows_after) c.union.ensures c.is_ok-grants.ensures.value

@@ -4,7 +4,6 @@ use lib.IntN.{ℤ, ◌+ℤ◌}
 use Rattle.book.specs.Programs.{takes}
 use Rattle.book.specs.States.{state_of, state_rows}
 use mir.Facts.{to_z-of_z}
-use Rattle.book.proofs.States.{Held, values-long}
 use Rattle.book.proofs.Naming.{back}
 use Rattle.book.proofs.Running.{summed, not-summed, added-yes, added-no}
 use Rattle.book.proofs.state.State.with_sum.Goals as goal
@@ -21,7 +20,6 @@ returns-in-Some c =
 pub returns-in-None : goal.returns-in-None
 returns-in-None c =
     let a = c.args in
-    let held : Held a.self = record { values = _; own = c.well_formed.0 } in
     let old = back a.old.0 c.struct_told-1.given.0.1 in
     let operand = to_z-of_z c.ranges.operand in
-    added-no a.self a.item (a.old.0 +ℤ a.operand) (values-long held) (not-summed a.old.0 a.operand (sym c.in-None.is ∙ rw (old, operand) at c.sum.ensures))
+    added-no a.self a.item (a.old.0 +ℤ a.operand) (not-summed a.old.0 a.operand (sym c.in-None.is ∙ rw (old, operand) at c.sum.ensures))
