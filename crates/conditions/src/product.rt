@@ -21,7 +21,7 @@ use crate::place::{PLACES, Place};
 use crate::table::ALLOWED;
 
 // A product, by its number. Digits past the last place say nothing.
-#[derive(Clone, Copy)]
+#[derive(Clone, Copy, Debug, PartialEq, Eq, PartialOrd, Ord, Hash)]
 pub struct Product(pub usize);
 
 // What a digit counts, by its place; the last one is the number of products.
@@ -109,17 +109,7 @@ impl Product {
     pub fn is_prime(self, c: Condition) -> bool
         ensures { result ≡ prime places self.0 (number c) }
     {
-        if !self.within(c) {
-            return false;
-        }
-        let mut i: usize = 0;
-        while i < PLACES {
-            if !self.needs(c, i) {
-                return false;
-            }
-            i += 1;
-        }
-        true
+        self.within(c) && (0..PLACES).all(|i| self.needs(c, i))
     }
 }
 
