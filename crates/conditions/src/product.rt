@@ -67,11 +67,9 @@ impl Product {
     {
         let mut set = Condition::FULL;
         let mut rest = self.0;
-        let mut place: usize = 0;
-        while place < PLACES {
+        for place in 0..PLACES {
             set = tagged(set, place, rest % 3);
             rest /= 3;
-            place += 1;
         }
         set
     }
@@ -109,7 +107,15 @@ impl Product {
     pub fn is_prime(self, c: Condition) -> bool
         ensures { result ≡ prime places self.0 (number c) }
     {
-        self.within(c) && (0..PLACES).all(|i| self.needs(c, i))
+        if !self.within(c) {
+            return false;
+        }
+        for i in 0..PLACES {
+            if !self.needs(c, i) {
+                return false;
+            }
+        }
+        true
     }
 }
 
@@ -167,9 +173,7 @@ fn barren_from(c: Condition, p: usize) -> usize
     let mut set = c.0;
     let mut rest = p % Product::COUNT;
     let mut scale = Product::COUNT;
-    let mut i: usize = PLACES;
-    while 0 < i {
-        i -= 1;
+    for i in (0..PLACES).rev() {
         scale /= 3;
         let tag = rest / scale;
         rest %= scale;

@@ -1,14 +1,27 @@
-use Rattle.std.proofs.Common.{rules, ◌≡◌, true, false, ◌&&◌, ℕ, suc, ◌+◌, ◌<◌, ◌≤◌, ◌^◌, ◌-◌, ◌*◌, length, ◌/◌, ◌%◌, Bool, nat_eq, nat_lt, List, [], ◌∷◌, ◌++◌, slice_index_or, slice_set, bit_and, bit_or, Fits, w8, w32, w64, Bor, MutBor}
-use Rattle.conditions.specs.Sets.{member, set_of}
+use mathlib.Core.Path.{◌≡◌, refl, sym, ◌∙◌}
+use native.Mathlib.Numerals.{add-one}
+use native.Mathlib.Omega.{arith}
+use borrow.Author.Tests.{not-true, not-false}
 use Rattle.conditions.specs.Places.{places}
-use Rattle.conditions.specs.Conditions.{number}
-use Rattle.conditions.specs.Products.{tag_at, agrees, allowed, needed, prime, NonePrime, prime_from, next_prime}
+use Rattle.conditions.specs.Below.{all}
+use Rattle.conditions.proofs.Laws.Below.{all_more}
+use Rattle.conditions.proofs.Primes.{not_within, not-needed, all-needed}
 use Rattle.conditions.proofs.product.Product.is_prime.Goals as goal
 
--- src/product.rt:109:5
-pub returns-then-within : goal.returns-then-within
-returns-then-within c = ?
+pub returns-then-not-within : goal.returns-then-not-within
+returns-then-not-within c = not_within places _ _ (sym c.within.ensures ∙ not-true _ c.if-not-within.true-raw)
 
--- src/product.rt:109:5
-pub returns-else-within : goal.returns-else-within
-returns-else-within c = ?
+pub loop-i-init : goal.loop-i-init
+unfolding all
+loop-i-init c = refl
+
+pub returns-then-not-needs : goal.returns-then-not-needs
+returns-then-not-needs c = not-needed places _ _ _ c.loop-i-test.true (sym c.needs.ensures ∙ not-true _ c.if-not-needs.true-raw)
+
+pub loop-i-preserved : goal.loop-i-preserved
+loop-i-preserved c = rw add-one (all_more _ _ c.loop-i.invariant (sym c.needs.ensures ∙ not-false _ c.if-not-needs.false-raw))
+
+pub returns : goal.returns
+returns c =
+    let last : c.loop-i.i ≡ places = omega arith in
+    all-needed places _ _ (sym c.within.ensures ∙ not-false _ c.if-not-within.false-raw) (rw last at c.loop-i.invariant)
