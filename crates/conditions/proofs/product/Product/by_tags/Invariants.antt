@@ -1,6 +1,6 @@
 -- The loop's invariant: the set is what the tags before the place allow, and the rest holds the others.
 use mathlib.Core.Path.{◌≡◌}
-use Prim.Native.Nat.{◌-◌, ◌/◌, ◌^◌, ◌≤◌}
+use Prim.Native.Nat.{◌/◌, ◌^◌}
 use Rattle.conditions.specs.Sets.{set_of}
 use Rattle.conditions.specs.Places.{places}
 use Rattle.conditions.specs.Products.{allows}

@@ -1,7 +1,6 @@
 -- The loop's invariant: each tag before place i is needed.
 use mathlib.Core.Path.{◌≡◌}
 use mathlib.Core.Bool.{true}
-use Prim.Native.Nat.{◌≤◌, ◌-◌}
 use Rattle.conditions.specs.Places.{places}
 use Rattle.conditions.specs.Below.{all}
 use Rattle.conditions.specs.Products.{needed}
