@@ -34,6 +34,7 @@ impl Condition {
     }
 
     // Whether two conditions have the same members.
+    // kept: docs/PROMISES.md names `Condition::same` for equality, with its contract; `==` is derived.
     pub fn same(self, other: Condition) -> bool
         ensures { result ≡ eqb (number self) (number other) }
     {
@@ -68,7 +69,7 @@ impl Condition {
     pub fn lowest(self) -> usize
         ensures { result ≡ lowest places (number self) }
     {
-        u64::trailing_zeros(self.0) as usize
+        self.0.trailing_zeros() as usize
     }
 
     // The assignments in which the place is completed.

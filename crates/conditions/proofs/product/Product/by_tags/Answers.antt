@@ -16,7 +16,7 @@ pub loop-place-preserved : goal.loop-place-preserved
 unfolding tag_at
 loop-place-preserved c =
     let at-loop = c.loop-place in (
-      rw add-one (allows-more places _ _ at-loop.invariant.0 (ap (λ (q : ℕ). q % 3) at-loop.invariant.1) c.tagged-set.ensures),
+      rw add-one (allows-more places _ _ at-loop.invariant.0 (c.of.ensures ∙ ap (λ (q : ℕ). q % 3) at-loop.invariant.1) c.tagged-set.ensures),
       tags-after _ _ at-loop.invariant.1,
     )
 
