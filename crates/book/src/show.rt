@@ -5,7 +5,7 @@ ghost use Rattle.conditions.specs.Written.{written};
 ghost use Rattle.book.specs.Show.{line_of, line_shown, shown, show};
 
 use crate::{Answer, Book, Open, Shown};
-use conditions::{PLACES, TransactionNumber, Written};
+use conditions::{NoRoom, PLACES, TransactionNumber};
 use polyvalues::Polyvalue;
 
 // The number of the transaction at each place.
@@ -31,11 +31,11 @@ fn write_held(held: Polyvalue, open: [Open; PLACES], buf: &mut [u8]) -> Shown
 {
     let numbers = numbers_at(open);
     match held.write_text(numbers, buf, 0) {
-        Written::To(end) => Shown {
+        Ok(end) => Shown {
             answer: Answer::Accepted,
             end,
         },
-        Written::NoRoom => Shown {
+        Err(NoRoom) => Shown {
             answer: Answer::ShortBuffer,
             end: 0,
         },

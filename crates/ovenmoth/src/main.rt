@@ -8,7 +8,6 @@
 ghost use Rattle.std.specs.Prelude.{◌≤◌, length};
 
 use book::Answer;
-use conditions::Written;
 use sheet::{EventAt, LONGEST_LINE, MOST_BYTES, Opened, event_at, open, play, write_refusal};
 
 // Standard input and standard output, as the system numbers them.
@@ -47,8 +46,7 @@ fn play_all(opened: Opened, sheet: &[u8], out: &mut [u8]) {
         position += 1;
         waiting = room(out, waiting);
         let played = play(book, sheet, event, position as u64, &mut out[waiting..]);
-        let written = played.written;
-        let Written::To(len) = written else {
+        let Ok(len) = played.written else {
             return;
         };
         if n - waiting < len {
@@ -65,7 +63,7 @@ fn play_all(opened: Opened, sheet: &[u8], out: &mut [u8]) {
 
 // Prints the line of a refused sheet.
 fn refuse(answer: Answer, place: usize, out: &mut [u8]) {
-    let Written::To(end) = write_refusal(answer, place as u64, out) else {
+    let Ok(end) = write_refusal(answer, place as u64, out) else {
         return;
     };
     if end <= out.len() {

@@ -6,9 +6,9 @@ use Prim.Native.Nat.{ℕ, ◌≤◌, ◌<◌}
 use native.Mathlib.Omega.{arith}
 use lib.ListN.{length, replicate}
 use borrow.Author.Tests.{le-leb, lt-leb, eq-eqb, ne_eqb}
-use Rattle.conditions.specs.declared.text.Written.TheVariants.{To, NoRoom}
+use Rattle.std.specs.Prelude.{Ok, Err}
 use Rattle.conditions.specs.Text.{bytes}
-use Rattle.conditions.specs.Written.{Put}
+use Rattle.conditions.specs.Written.{no_room, Put}
 use Rattle.book.specs.declared.Answer.{Answer}
 use Rattle.book.specs.declared.Answer.TheVariants.{Accepted}
 use Rattle.book.specs.declared.Book.{Book}
@@ -34,17 +34,17 @@ module _ (a : Answer) {n : ℕ} (e : n ≡ answer_number a) where
 -- ---- a line in a buffer that has room for it
 
 pub plays : (x : EventResult) (position : ℕ) {l m : List ℕ} {end : ℕ} → Put l m 0 end (result_line position x) → end ≤ length l
-    → Plays x position l (record { written = To end; book = x.book }) m
+    → Plays x position l (record { written = Ok end; book = x.book }) m
 plays x position {l} {m} {end} p h =
     let w = line-written p (omega (arith, p.ends)) in
     let ends = w.0 in
-    record { result = λ k. record { written = To (ends k); book = x.book }; buffer = w.1 }
+    record { result = λ k. record { written = Ok (ends k); book = x.book }; buffer = w.1 }
 
 -- show's line
 module _ (w : ℕ) (b : Book) (i position : ℕ) where
   pub show-accepted : {l m : List ℕ} {end : ℕ} {a : Answer} → a ≡ show_answer w b i (replicate lent_room 0) → accepted a ≡ true
       → Put l m 0 end (((head position Accepted ++ bytes " ") ++ held_line w b i) ++ bytes "\n") → end ≤ length l
-      → Plays (of_show w b i) position l (record { written = To end; book = b }) m
+      → Plays (of_show w b i) position l (record { written = Ok end; book = b }) m
   unfolding of_show
   show-accepted {a = a} is y p h =
       plays (of_show w b i) position
@@ -52,7 +52,7 @@ module _ (w : ℕ) (b : Book) (i position : ℕ) where
 
   pub show-refused : {l m : List ℕ} {end : ℕ} {a : Answer} → a ≡ show_answer w b i (replicate lent_room 0) → accepted a ≡ false
       → Put l m 0 end (event_line position a []) → end ≤ length l
-      → Plays (of_show w b i) position l (record { written = To end; book = b }) m
+      → Plays (of_show w b i) position l (record { written = Ok end; book = b }) m
   unfolding of_show
   show-refused {a = a} is n p h =
       plays (of_show w b i) position
@@ -62,7 +62,7 @@ module _ (w : ℕ) (b : Book) (i position : ℕ) where
 
 module _ (w : ℕ) (b : Book) (s : List ℕ) (e : Event) (position : ℕ) (l : List ℕ) where
   pub too_short : length l < longest_line
-      → (record { written = NoRoom; book = b } ≡ played w b s e position l) × (l ≡ played_buffer w b s e position l)
+      → (record { written = Err no_room; book = b } ≡ played w b s e position l) × (l ≡ played_buffer w b s e position l)
   unfolding played played_buffer line_answer line_written
   too_short h = let short = lt-leb longest_line (length l) h in (rw short, rw short)
 
