@@ -21,7 +21,7 @@ use crate::place::{PLACES, Place};
 use crate::table::ALLOWED;
 
 // A product, by its number. Digits past the last place say nothing.
-#[derive(Clone, Copy)]
+#[derive(Clone, Copy, Debug, PartialEq, Eq, PartialOrd, Ord, Hash)]
 pub struct Product(pub usize);
 
 // What a digit counts, by its place; the last one is the number of products.
@@ -67,11 +67,9 @@ impl Product {
     {
         let mut set = Condition::FULL;
         let mut rest = self.0;
-        let mut place: usize = 0;
-        while place < PLACES {
+        for place in 0..PLACES {
             set = tagged(set, place, rest % 3);
             rest /= 3;
-            place += 1;
         }
         set
     }
@@ -112,12 +110,10 @@ impl Product {
         if !self.within(c) {
             return false;
         }
-        let mut i: usize = 0;
-        while i < PLACES {
+        for i in 0..PLACES {
             if !self.needs(c, i) {
                 return false;
             }
-            i += 1;
         }
         true
     }
@@ -177,9 +173,7 @@ fn barren_from(c: Condition, p: usize) -> usize
     let mut set = c.0;
     let mut rest = p % Product::COUNT;
     let mut scale = Product::COUNT;
-    let mut i: usize = PLACES;
-    while 0 < i {
-        i -= 1;
+    for i in (0..PLACES).rev() {
         scale /= 3;
         let tag = rest / scale;
         rest %= scale;

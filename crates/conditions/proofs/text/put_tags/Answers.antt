@@ -9,17 +9,21 @@ use Rattle.conditions.proofs.text.put_tags.Goals as goal
 
 pub loop-i-init : goal.loop-i-init
 unfolding tags_text those joined
-loop-i-init c = (omega arith, put-none _ _, omega arith)
+loop-i-init c = record { put = put-none _ _; upper_bound = omega arith }
+
+pub put_place-end-requires : goal.put_place-end-requires
+put_place-end-requires c = omega (arith, c.loop-i.invariant.upper_bound)
 
 pub loop-i-preserved : goal.loop-i-preserved
-loop-i-preserved c =
-    let at-loop = c.loop-i in
-    (omega arith, rw add-one (tags-more _ _ _ at-loop.invariant.1 c.tag.ensures refl c.put_place-end.ensures.put), omega (arith, at-loop.invariant.2, c.put_place-end.ensures.upper_bound))
+loop-i-preserved c = record {
+  put = rw add-one (tags-more _ _ _ c.loop-i.invariant.put c.tag.ensures refl c.put_place-end.ensures.put);
+  upper_bound = omega (arith, c.loop-i.invariant.upper_bound, c.put_place-end.ensures.upper_bound);
+}
 
 pub returns : goal.returns
 returns c =
     let last : c.loop-i.i ≡ places = omega arith in
     record {
-      put = rw last at c.loop-i.invariant.1;
-      upper_bound = omega (arith, c.loop-i.invariant.2);
+      put = rw last at c.loop-i.invariant.put;
+      upper_bound = omega (arith, c.loop-i.invariant.upper_bound);
     }

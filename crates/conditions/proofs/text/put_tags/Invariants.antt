@@ -6,7 +6,7 @@ use Rattle.conditions.specs.Written.{Put}
 use Rattle.conditions.proofs.text.put_tags.Given as goal
 
 abbrev pub invariant-loop-i : goal.invariant-loop-i
-invariant-loop-i l = (l.i ≤ places) × Put l.initial.buf l.buf l.at l.end (tags_text l.i (number_at l.numbers) l.product.0) × (l.end ≤ l.at + 8 * l.i)
-
-abbrev pub decreases-loop-i : goal.decreases-loop-i
-decreases-loop-i l = places - l.i
+invariant-loop-i l = record {
+  put : Put l.initial.buf l.buf l.at l.end (tags_text l.i (number_at l.n-items) l.product.0);
+  upper_bound : l.end ≤ l.at + 8 * l.i;
+}
