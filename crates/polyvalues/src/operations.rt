@@ -86,14 +86,11 @@ impl Polyvalue {
     pub fn depends(self, place: Place) -> bool
         ensures { result ≡ depends places (in_use self) place.0 }
     {
-        let n = self.len();
-        let mut i: usize = 0;
-        while i < n {
+        for i in 0..self.len() {
             let row = self.row(i);
             if row.condition.depends(place) {
                 return true;
             }
-            i += 1;
         }
         false
     }
@@ -102,14 +99,10 @@ impl Polyvalue {
     pub fn places(self) -> u8
         ensures { result ≡ set_of places (depends places (in_use self)) }
     {
-        let n = self.len();
         let mut set: u8 = 0;
-        let mut i: usize = 0;
-        while i < n {
+        for i in 0..self.len() {
             let row = self.row(i);
-            let more = row.condition.places();
-            set = set | more;
-            i += 1;
+            set |= row.condition.places();
         }
         set
     }
@@ -118,14 +111,11 @@ impl Polyvalue {
     pub fn applying(self, assignment: usize) -> Pair
         ensures { result ≡ applying (in_use self) assignment }
     {
-        let n = self.len();
-        let mut i: usize = 0;
-        while i < n {
+        for i in 0..self.len() {
             let row = self.row(i);
             if row.condition.contains(assignment) {
                 return row;
             }
-            i += 1;
         }
         Pair {
             value: 0,

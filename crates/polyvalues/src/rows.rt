@@ -16,15 +16,13 @@ fn place_of(q: Polyvalue, new: Pair) -> usize
     requires { q.count ≤ most_pairs }
     ensures { PlaceOf q new.value result }
 {
-    let mut k: usize = 0;
-    while k < q.count {
+    for k in 0..q.count {
         let row = q.row(k);
         if !row.below(new) {
             return k;
         }
-        k += 1;
     }
-    k
+    q.count
 }
 
 // Whether the row is in use and has the new one's value.

@@ -116,12 +116,10 @@ fn put_line(buf: &mut [u8], at: usize, q: Polyvalue, numbers: [TransactionNumber
 {
     let n = q.len();
     let mut end = put_decimal(buf, at, n as u64);
-    let mut i: usize = 0;
-    while i < n {
+    for i in 0..n {
         let row = q.row(i);
         end = put_byte(buf, end, b' ');
         end = put_pair(buf, end, row, numbers);
-        i += 1;
     }
     end
 }
@@ -134,11 +132,9 @@ impl Polyvalue {
     {
         let n = self.len();
         let mut len = decimal_len(n as u64);
-        let mut i: usize = 0;
-        while i < n {
+        for i in 0..n {
             let row = self.row(i);
             len += 1 + pair_len(row, numbers);
-            i += 1;
         }
         len
     }
