@@ -152,11 +152,12 @@ pub(crate) fn whole(sheet: &[u8]) -> Result<Read<Sheet>, Wrong>
     ensures told { (es : List Event) × (whole sheet.now ≡ told_as (λ x. record { districts = x.districts; items = openings_of x.items; events = record { count = x.events.count; first = x.events.first; each = es } }) sheet.now result) }
     ensures count_le_most_items { IfOk result (λ r. r.value.items.count ≤ most_items) }
 {
+    let n = sheet.len();
     let districts = districts(sheet)?;
     let items = items(sheet, districts.next, districts.value)?;
     let events = events(sheet, items.next)?;
     let end = events.next;
-    if end < sheet.len() {
+    if end < n {
         return Err(Wrong(end));
     }
     Ok(Read {
