@@ -2,13 +2,13 @@
 use mathlib.Core.Path.{◌≡◌, refl, sym, ap, ap₂, ◌∙◌}
 use mathlib.Core.Bool.{Bool, true, false, not, ◌&&◌, ◌||◌, cond}
 use mathlib.Core.List.{List, [], ◌∷◌}
-use Prim.Native.Nat.{ℕ, zero, suc, ◌+◌, ◌≤◌, ◌<◌}
+use Prim.Native.Nat.{ℕ, zero, suc, ◌+◌, ◌-◌, ◌≤◌, ◌<◌}
 use native.Mathlib.Numerals.{add-one, one-add}
 use native.Mathlib.Omega.{arith}
 use lib.Dec.{ltb}
 use borrow.Author.Tests.{lt-ltb, le-ltb}
 use native.Mathlib.Decide.{dec_lt}
-use lib.ListN.{length, get_or, take}
+use lib.ListN.{length, get_or, take, drop}
 use lib.Seq.{take-length}
 use native.Mathlib.Nat.{zero-add}
 use Rattle.std.specs.List.{list_any, list_all, position_or_len, enumerate_from, range_with_len}
@@ -17,7 +17,7 @@ use Rattle.std.proofs.Common.{Option, Some, None}
 use Rattle.std.proofs.lemmas.List.Folds.{list_any_more, list_all_more}
 use Rattle.std.proofs.lemmas.List.Sums.{prefix_len-le-length}
 use Rattle.std.proofs.lemmas.List.FromFn.{length-enumerate_from, get_or-enumerate_from, length-range_with_len, get_or-range_with_len}
-use Rattle.std.proofs.lemmas.List.{length-take-le, get_or-take}
+use Rattle.std.proofs.lemmas.List.{length-take-le, length-drop, get_or-take, get_or-drop}
 use Rattle.conditions.specs.Below.{any, all, first}
 use Rattle.conditions.proofs.Laws.Below.{all_same}
 
@@ -34,6 +34,16 @@ all_rows p z zero xs h = refl
 all_rows p z (suc n) xs h =
     let more = list_all_more p xs n z (omega arith) in
     rw add-one at more ∙ ap (λ (b : Bool). b && p (get_or xs n z)) (all_rows p z n xs (omega arith))
+
+-- `&xs[n..]`
+pub to_the_end : {A : Type 0} (n : ℕ) (xs : List A) → take (length xs - n) (drop n xs) ≡ drop n xs
+to_the_end n xs = ap (λ (k : ℕ). take k (drop n xs)) (sym (length-drop n xs)) ∙ take-length (drop n xs)
+
+-- the rows from n on
+pub all_past : {A : Type 0} (p : A → Bool) (z : A) (n : ℕ) (xs : List A) → list_all p (drop n xs) ≡ all (length xs - n) (λ i. p (get_or xs (n + i) z))
+all_past p z n xs =
+    ap (list_all p) (sym (take-length (drop n xs))) ∙ all_rows p z (length (drop n xs)) (drop n xs) (omega arith)
+    ∙ ap (λ (k : ℕ). all k (λ i. p (get_or (drop n xs) i z))) (length-drop n xs) ∙ all_same (length xs - n) _ _ (λ i h. ap p (get_or-drop n xs i z))
 
 pub first_row : {A : Type 0} (p : A → Bool) (z : A) (xs : List A) → position_or_len p xs ≡ first (length xs) (λ i. p (get_or xs i z))
 unfolding first

@@ -15,6 +15,7 @@ ghost use Rattle.book.specs.Book.{
   item_depends,
 };
 
+use crate::records::IDLE;
 use crate::{Item, Open, Record};
 use conditions::{Condition, PLACES, Place, TransactionNumber};
 use polyvalues::Polyvalue;
@@ -48,7 +49,7 @@ pub struct Tables {
 pub(crate) fn record_on(r: Record) -> u16
     ensures { result ≡ record_on r }
 {
-    if r.phase == 0 { 0 } else { r.transaction.0 }
+    if r.phase == IDLE { 0 } else { r.transaction.0 }
 }
 
 // The number of the transaction that the items of a district are on.
