@@ -51,7 +51,8 @@ impl Tag {
         match digit {
             0 => Tag::Absent,
             1 => Tag::Completed,
-            _ => Tag::Aborted,
+            2 => Tag::Aborted,
+            _ => unreachable!(),
         }
     }
 }
