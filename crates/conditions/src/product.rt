@@ -21,7 +21,7 @@ use crate::place::{PLACES, Place};
 use crate::table::ALLOWED;
 
 // A product, by its number. Digits past the last place say nothing.
-#[derive(Clone, Copy, Debug, PartialEq, Eq, PartialOrd, Ord, Hash)]
+#[derive(Clone, Copy, Debug, PartialEq, Eq, PartialOrd, Ord)]
 pub struct Product(pub usize);
 
 // What a digit counts, by its place; the last one is the number of products.
