@@ -13,10 +13,7 @@ impl Pair {
     pub(crate) fn same(self, other: Pair) -> bool
         ensures { result ≡ same_pair self other }
     {
-        if !self.equal(other) {
-            return false;
-        }
-        self.condition.same(other.condition)
+        self.equal(other) && self.condition.same(other.condition)
     }
 }
 
@@ -59,13 +56,7 @@ impl Polyvalue {
         ensures upper_bound { result ≤ 1 }
     {
         let row = self.row(i);
-        if self.occurs(row, i + 1) {
-            return 0;
-        }
-        if other.occurs(row, 0) {
-            return 0;
-        }
-        1
+        usize::from(!self.occurs(row, i + 1) && !other.occurs(row, 0))
     }
 
     // How many values it adds to those of the other polyvalue.

@@ -36,10 +36,10 @@ fn cut_condition(c: Condition, place: Place, how: Cut) -> Condition
 fn cut_pair(row: Pair, place: Place, how: Cut) -> Pair
     ensures { result ≡ pair row.value (cut places place.0 how (assignments row)) }
 {
-    let mut new = row;
-    let condition = cut_condition(row.condition, place, how);
-    new.condition = condition;
-    new
+    Pair {
+        value: row.value,
+        condition: cut_condition(row.condition, place, how),
+    }
 }
 
 impl Polyvalue {
@@ -117,9 +117,6 @@ impl Polyvalue {
                 return row;
             }
         }
-        Pair {
-            value: 0,
-            condition: Condition::EMPTY,
-        }
+        Pair::ZERO
     }
 }

@@ -33,22 +33,24 @@ pub struct Polyvalue {
 pub struct NinthValue(pub Polyvalue);
 
 impl Pair {
+    // A row that holds zeros.
+    pub(crate) const ZERO: Pair = Pair {
+        value: 0,
+        condition: Condition::EMPTY,
+    };
+
     // Whether its value is below the other's.
     pub(crate) fn below(self, other: Pair) -> bool
         ensures { result ≡ below self.value other.value }
     {
-        let a = self.value;
-        let b = other.value;
-        below(a, b)
+        below(self.value, other.value)
     }
 
     // Whether they have the same value.
     pub(crate) fn equal(self, other: Pair) -> bool
         ensures { result ≡ equal self.value other.value }
     {
-        let a = self.value;
-        let b = other.value;
-        equal(a, b)
+        equal(self.value, other.value)
     }
 }
 
@@ -58,9 +60,10 @@ impl Polyvalue {
         requires { i < most_pairs }
         ensures { result ≡ get_or (rows_of self) i no_pair }
     {
-        let value = self.values[i];
-        let condition = self.conditions[i];
-        Pair { value, condition }
+        Pair {
+            value: self.values[i],
+            condition: self.conditions[i],
+        }
     }
 
     // How many rows are in use: any count may be handed in.
@@ -68,11 +71,7 @@ impl Polyvalue {
         ensures value { result ≡ length (in_use self) }
         ensures upper_bound { result ≤ most_pairs }
     {
-        let n = self.count;
-        if PAIRS < n {
-            return PAIRS;
-        }
-        n
+        self.count.min(PAIRS)
     }
 
     // The rows past those in use set to zero.
@@ -82,12 +81,8 @@ impl Polyvalue {
         let n = self.len();
         let mut values = self.values;
         let mut conditions = self.conditions;
-        let mut i = n;
-        while i < PAIRS {
-            values[i] = 0;
-            conditions[i] = Condition::EMPTY;
-            i += 1;
-        }
+        values[n..].fill(0);
+        conditions[n..].fill(Condition::EMPTY);
         Polyvalue {
             count: n,
             values,
