@@ -1,12 +1,14 @@
 -- Two lists of pairs side by side, row by row.
 use mathlib.Core.Path.{◌≡◌, refl, sym, ap, ◌∙◌}
-use mathlib.Core.Bool.{Bool, true, false, not, ◌&&◌, ◌||◌, false≢true}
+use mathlib.Core.Bool.{Bool, true, false, not, ◌&&◌, ◌||◌, true≢false, false≢true}
 use mathlib.Core.List.{List, [], ◌∷◌, ◌++◌, append-nil}
 use Prim.Native.Nat.{ℕ, suc, ◌+◌, ◌<◌}
 use native.Mathlib.Numerals.{add-one}
 use native.Mathlib.Nat.{add-zero}
 use lib.Dec.{eqb}
 use lib.IntN.{ℤ}
+use Rattle.std.specs.Ordering.{int_eq}
+use Rattle.std.proofs.lemmas.Bool.Decides.{Decides-int_eq}
 use lib.ListN.{length, get_or, drop}
 use mir.Val.{bool_byte}
 use Rattle.conditions.specs.Sets.{digit}
@@ -16,12 +18,23 @@ use Rattle.polyvalues.specs.declared.polyvalue.Polyvalue.{Polyvalue}
 use Rattle.polyvalues.specs.Values.{equal}
 use Rattle.polyvalues.specs.Pairs.{no_pair, assignments}
 use Rattle.polyvalues.specs.Polyvalues.{rows_of, in_use, packed}
-use Rattle.polyvalues.specs.Operations.{occurs, different, together, same}
+use Rattle.polyvalues.specs.Operations.{same_pair, occurs, different, together, same}
+use Rattle.polyvalues.proofs.Laws.Values.{equal-refl, not_equal}
 use Rattle.polyvalues.proofs.Laws.Room.{occurs-append}
 use Rattle.polyvalues.proofs.Inserting.{in_use-row}
 use Rattle.polyvalues.proofs.Joining.{packed-in_use}
 
 -- ---- the same pairs
+
+equal-is : (x y : ℤ) → int_eq x y ≡ equal x y
+equal-is x y =
+    by_cases (int_eq x y)
+    (λ e. let q : x ≡ y = (Decides-int_eq x y).0 e in e ∙ sym (ap (equal x) (sym q) ∙ equal-refl x))
+    (λ e. e ∙ sym (not_equal x y (λ q. true≢false (sym ((Decides-int_eq x y).1 q) ∙ e))))
+
+-- two pairs as the derive compares them
+pub pair-same : (p q : Pair) → (int_eq p.value q.value && eqb (assignments p) (assignments q)) ≡ same_pair p q
+pair-same p q = ap (λ (e : Bool). e && eqb (assignments p) (assignments q)) (equal-is p.value q.value)
 
 same_length : (ps qs : List Pair) → same ps qs ≡ true → length ps ≡ length qs
 same_length [] [] e = refl

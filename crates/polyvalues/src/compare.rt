@@ -4,18 +4,9 @@ ghost use Rattle.std.specs.Prelude.{◌≡◌, not, ◌++◌, ◌+◌, ◌<◌, 
 ghost use Rattle.conditions.specs.Sets.{digit};
 ghost use Rattle.polyvalues.specs.Pairs.{no_pair};
 ghost use Rattle.polyvalues.specs.Polyvalues.{most_pairs, in_use};
-ghost use Rattle.polyvalues.specs.Operations.{same_pair, occurs, different, together, same};
+ghost use Rattle.polyvalues.specs.Operations.{occurs, different, together, same};
 
 use crate::polyvalue::{Pair, Polyvalue};
-
-impl Pair {
-    // Whether it is the same value under the same condition.
-    pub(crate) fn same(self, other: Pair) -> bool
-        ensures { result ≡ same_pair self other }
-    {
-        self.equal(other) && self.condition.same(other.condition)
-    }
-}
 
 impl Polyvalue {
     // Whether two polyvalues are the same pairs.
@@ -27,9 +18,7 @@ impl Polyvalue {
             return false;
         }
         for i in 0..n {
-            let row = self.row(i);
-            let twin = other.row(i);
-            if !row.same(twin) {
+            if self.row(i) != other.row(i) {
                 return false;
             }
         }

@@ -14,7 +14,7 @@ use conditions::{Condition, Place};
 
 // What becomes of each condition: a place is set to an outcome, or the condition is cut to where the
 // place is completed, or to where it is aborted.
-#[derive(Clone, Copy)]
+#[derive(Clone, Copy, Debug, PartialEq, Eq)]
 pub enum Cut {
     Reduced(bool),
     Completed,

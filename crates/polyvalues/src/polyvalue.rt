@@ -12,7 +12,7 @@ use conditions::Condition;
 pub const PAIRS: usize = 8;
 
 // A value and the condition under which it applies.
-#[derive(Clone, Copy)]
+#[derive(Clone, Copy, Debug, PartialEq, Eq)]
 pub struct Pair {
     pub value: i16,
     pub condition: Condition,
@@ -20,7 +20,7 @@ pub struct Pair {
 
 // The first `count` rows count; the rows past them are zero. A row is a value and the condition at
 // the same index: in arrays of their own they need no padding, and rows of zeros are told at once.
-#[derive(Clone, Copy)]
+#[derive(Clone, Copy, Debug, PartialEq, Eq)]
 pub struct Polyvalue {
     pub count: usize,
     pub values: [i16; PAIRS],
@@ -29,7 +29,7 @@ pub struct Polyvalue {
 
 // Why nothing could be joined into a polyvalue: there is no room for a ninth value. The polyvalue, as
 // it was.
-#[derive(Clone, Copy)]
+#[derive(Clone, Copy, Debug, PartialEq, Eq)]
 pub struct NinthValue(pub Polyvalue);
 
 impl Pair {

@@ -17,7 +17,7 @@ impl Pair {
     fn is_blank(self) -> bool
         ensures { result ≡ blank self }
     {
-        self.same(Pair::ZERO)
+        self == Pair::ZERO
     }
 
     // Whether its value may be one.
