@@ -30,8 +30,7 @@ impl Polyvalue {
         ensures { result ≡ occurs pair.value (drop from (in_use self)) }
     {
         for i in from..self.len() {
-            let row = self.row(i);
-            if pair.equal(row) {
+            if self.row(i).value == pair.value {
                 return true;
             }
         }

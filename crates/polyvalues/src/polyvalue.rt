@@ -1,11 +1,9 @@
 // Pairs of value and condition, and the polyvalue as the code keeps it.
 ghost use Rattle.std.specs.Prelude.{◌≡◌, [], ◌≤◌, ◌<◌, length, get_or};
 ghost use Rattle.conditions.specs.Places.{places};
-ghost use Rattle.polyvalues.specs.Values.{below, equal};
 ghost use Rattle.polyvalues.specs.Pairs.{no_pair, certain};
 ghost use Rattle.polyvalues.specs.Polyvalues.{most_pairs, rows_of, in_use, packed};
 
-use crate::value::{below, equal};
 use conditions::Condition;
 
 // How many pairs a polyvalue has room for.
@@ -38,20 +36,6 @@ impl Pair {
         value: 0,
         condition: Condition::EMPTY,
     };
-
-    // Whether its value is below the other's.
-    pub(crate) fn below(self, other: Pair) -> bool
-        ensures { result ≡ below self.value other.value }
-    {
-        below(self.value, other.value)
-    }
-
-    // Whether they have the same value.
-    pub(crate) fn equal(self, other: Pair) -> bool
-        ensures { result ≡ equal self.value other.value }
-    {
-        equal(self.value, other.value)
-    }
 }
 
 impl Polyvalue {

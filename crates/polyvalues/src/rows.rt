@@ -17,8 +17,7 @@ fn place_of(q: Polyvalue, new: Pair) -> usize
     ensures { PlaceOf q new.value result }
 {
     for k in 0..q.count {
-        let row = q.row(k);
-        if !row.below(new) {
+        if q.row(k).value >= new.value {
             return k;
         }
     }
@@ -30,7 +29,7 @@ fn has_at(q: Polyvalue, k: usize, new: Pair) -> bool
     requires { q.count ≤ most_pairs }
     ensures { result ≡ has_at q k new.value }
 {
-    k < q.count && q.row(k).equal(new)
+    k < q.count && q.row(k).value == new.value
 }
 
 // The rows from k to n moved down by one, with a new one at k.

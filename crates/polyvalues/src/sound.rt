@@ -31,7 +31,7 @@ impl Pair {
     fn follows(self, row: Pair, covered: Condition) -> bool
         ensures { result ≡ row_fits places row.value (number covered) self }
     {
-        row.below(self)
+        row.value < self.value
             && self.in_range()
             && !self.condition.is_empty()
             && covered.intersection(self.condition).is_empty()
