@@ -35,9 +35,8 @@ impl Alternative {
         ensures condition_value { number result.condition ≡ intersection places (number self.condition) (assignments pair) }
         ensures state_value { result.state ≡ state_rows (takes (state_of self.state) item pair.value) }
     {
-        let value = pair.value;
         let condition = self.condition.intersection(pair.condition);
-        let state = self.state.with(item, Value(value));
+        let state = self.state.with(item, Value(pair.value));
         Alternative { condition, state }
     }
 }
@@ -48,23 +47,18 @@ fn alternative_under(b: Book, p: Program, assignment: usize) -> Alternative
     ensures condition_value { number result.condition ≡ block places b (steps_of p) assignment }
     ensures starts_as { StartsAs b (steps_of p) assignment b.count result.state }
 {
-    let n = b.count;
-    let blank = Value(0);
-    let state = State {
-        values: [blank; ITEMS],
-    };
     let mut done = Alternative {
         condition: Condition::FULL,
-        state,
+        state: State {
+            values: [Value(0); ITEMS],
+        },
     };
-    let mut i: usize = 0;
-    while i < n {
+    for i in 0..b.count {
         let x = b.items[i];
         if p.touches(i) {
             let pair = x.held.applying(assignment);
             done = done.with(i, pair);
         }
-        i += 1;
     }
     done
 }
@@ -132,18 +126,28 @@ impl Worked {
             new,
         })
     }
+
+    // 1 if no assignment declines, 0 if all do, 2 otherwise.
+    pub(crate) fn granted(&self) -> u8
+        ensures { result ≡ grant_of self.now.declines self.now.grants }
+    {
+        match (self.declines, self.grants) {
+            (false, _) => 1,
+            (true, false) => 0,
+            (true, true) => 2,
+        }
+    }
 }
 
 // Nothing is worked out yet.
 fn nothing_worked() -> Worked
     ensures { result ≡ nothing_worked }
 {
-    let none = Polyvalue::nothing();
     Worked {
         declines: false,
         grants: false,
         covered: Condition::EMPTY,
-        new: [none; ITEMS],
+        new: [Polyvalue::nothing(); ITEMS],
     }
 }
 
@@ -167,10 +171,7 @@ pub(crate) fn worked_out(b: Book, p: Program) -> Option<Worked>
 fn over_room(x: Item, new: Polyvalue, touched: bool) -> bool
     ensures { result ≡ (touched && ltb most_pairs (together (in_use x.held) (in_use new))) }
 {
-    if touched {
-        return PAIRS < x.held.together(new);
-    }
-    false
+    touched && PAIRS < x.held.together(new)
 }
 
 // Whether those of some item are.
@@ -185,17 +186,4 @@ pub(crate) fn too_many(b: Book, p: Program, w: Worked) -> bool
         }
     }
     false
-}
-
-// 1 if no assignment declines, 0 if all do, 2 otherwise.
-pub(crate) fn granted(declines: bool, grants: bool) -> u8
-    ensures { result ≡ grant_of declines grants }
-{
-    if declines {
-        if grants {
-            return 2;
-        }
-        return 0;
-    }
-    1
 }

@@ -11,7 +11,7 @@ ghost use Rattle.book.specs.Alternatives.{WorkedOut};
 ghost use Rattle.book.specs.Begin.{bad_program, outside, some_busy, too_many, touches_district, begun, begins, begin};
 ghost use Rattle.book.specs.SoundTest.{sound};
 
-use crate::alternatives::{Worked, granted, too_many, worked_out};
+use crate::alternatives::{Worked, too_many, worked_out};
 use crate::program::{Program, bad_program, read};
 use crate::tables::free_place;
 use crate::touched::{begun_records, some_busy, with_district};
@@ -96,7 +96,7 @@ fn begin_at(b: Book, p: Program, q: usize, set: u8) -> Begun
     if too_many(b, p, w) {
         return refused(b, Answer::TooManyValues);
     }
-    let grant = granted(w.declines, w.grants);
+    let grant = w.granted();
     let after = begun(b, p, w, q, set);
     let number = after.last;
     Begun {

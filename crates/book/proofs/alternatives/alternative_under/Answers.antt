@@ -22,9 +22,6 @@ bounds-b-i c = omega (arith, c.requires)
 pub with-done-requires : goal.with-done-requires
 with-done-requires c = omega (arith, c.requires)
 
-pub loop-i-smaller : goal.loop-i-smaller
-loop-i-smaller c = omega arith
-
 pub loop-i-preserved : goal.loop-i-preserved
 loop-i-preserved c =
     let a = c.args in
