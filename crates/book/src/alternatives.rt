@@ -42,10 +42,10 @@ impl Alternative {
 }
 
 // The block of the assignment, and the held values that it chooses.
-fn alternative_under(b: Book, p: Program, assignment: usize) -> Alternative
-    requires { b.count ≤ most_items }
-    ensures condition_value { number result.condition ≡ block places b (steps_of p) assignment }
-    ensures starts_as { StartsAs b (steps_of p) assignment b.count result.state }
+fn alternative_under(b: &Book, p: Program, assignment: usize) -> Alternative
+    requires { b.now.count ≤ most_items }
+    ensures condition_value { number result.condition ≡ block places b.now (steps_of p) assignment }
+    ensures starts_as { StartsAs b.now (steps_of p) assignment b.now.count result.state }
 {
     let mut done = Alternative {
         condition: Condition::FULL,
@@ -160,7 +160,7 @@ pub(crate) fn worked_out(b: Book, p: Program) -> Option<Worked>
     let mut done = nothing_worked();
     let mut next: usize = 0;
     while next < ASSIGNMENTS {
-        let start = alternative_under(b, p, next);
+        let start = alternative_under(&b, p, next);
         done = done.after(b.count, p, start)?;
         next = done.covered.complement().lowest();
     }
@@ -175,10 +175,10 @@ fn over_room(x: Item, new: Polyvalue, touched: bool) -> bool
 }
 
 // Whether those of some item are.
-pub(crate) fn too_many(b: Book, p: Program, w: Worked) -> bool
-    requires count_le_most_items { b.count ≤ most_items }
-    requires worked_out { WorkedOut places b (steps_of p) w }
-    ensures { result ≡ too_many places b (steps_of p) }
+pub(crate) fn too_many(b: &Book, p: Program, w: &Worked) -> bool
+    requires count_le_most_items { b.now.count ≤ most_items }
+    requires worked_out { WorkedOut places b.now (steps_of p) w.now }
+    ensures { result ≡ too_many places b.now (steps_of p) }
 {
     for i in 0..b.count {
         if over_room(b.items[i], w.new[i], p.touches(i)) {

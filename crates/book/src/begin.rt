@@ -93,7 +93,7 @@ fn begin_at(b: Book, p: Program, q: usize, set: u8) -> Begun
     let Some(w) = worked_out(b, p) else {
         return refused(b, Answer::TooManyValues);
     };
-    if too_many(b, p, w) {
+    if too_many(&b, p, &w) {
         return refused(b, Answer::TooManyValues);
     }
     let grant = w.granted();
