@@ -3,7 +3,7 @@ ghost use Rattle.std.specs.Prelude.{◌≡◌};
 ghost use Rattle.conditions.specs.Places.{places};
 ghost use Rattle.sheet.specs.Open.{refused, open_sheet};
 
-use crate::readers::{Read, Wrong};
+use crate::readers::Wrong;
 use crate::sections::whole;
 use book::{Answer, Book, opened, zero_book};
 
@@ -44,7 +44,7 @@ pub fn open(sheet: &[u8]) -> Opened
         return refused(Answer::TooLong, 0);
     }
     match whole(sheet) {
-        Ok(Read { value, .. }) => Opened {
+        Ok(value) => Opened {
             answer: Answer::Accepted,
             place: 0,
             book: opened(value.districts, value.items),
