@@ -1,5 +1,5 @@
--- What a reader of the code answers: what was read, or the place that is wrong. Its place afterwards is the one behind what was read.
-use Rattle.std.specs.Prelude.{List, ℕ, drop, Result, Ok, Err}
+-- What a reader of the code answers: what was read, or the place that is wrong. It leaves the sheet as it is, and its place afterwards is the one behind what was read.
+use Rattle.std.specs.Prelude.{◌≡◌, List, ℕ, drop, Result, Ok, Err}
 use Rattle.sheet.specs.declared.readers.Reader.{Reader}
 use Rattle.sheet.specs.declared.readers.Wrong.{Wrong}
 use Rattle.sheet.specs.Readers.{Read, wrong, right}
@@ -8,15 +8,16 @@ use Rattle.sheet.specs.Readers.{Read, wrong, right}
 abbrev pub left : Reader → List ℕ
 left r = drop r.at r.sheet.now
 
--- what a reader of the definitions says there
-abbrev pub reads : {A : Type 0} → (ℕ → List ℕ → Read A) → Reader → Read A
-reads reader r = reader r.at (left r)
+-- what the answer tells, where r is the reader afterwards, and f makes of what the code keeps what was read
+abbrev pub told : {T A : Type 0} → (T → A) → Reader → Result T Wrong → Read A
+told f r (Ok x) = right (f x) r.at (left r)
+told f r (Err e) = wrong e.0
 
--- what the code answers, where f is what it keeps of it: r is the reader afterwards
-abbrev pub told_as : {T A : Type 0} → (T → A) → Reader → Result T Wrong → Read A
-told_as f r (Ok x) = right (f x) r.at (left r)
-told_as f r (Err e) = wrong e.0
+-- the answer x is what this reader of the definitions says, at the reader that was before and is after
+pub record ReadsAs {T A : Type 0} (f : T → A) (reader : ℕ → List ℕ → Read A) (before after : Reader) (x : Result T Wrong) : Type 0 where
+  pub told : reader before.at (left before) ≡ told f after x
+  pub kept : after.sheet.now ≡ before.sheet.now
 
--- where it keeps just that
-abbrev pub told : {A : Type 0} → Reader → Result A Wrong → Read A
-told r x = told_as (λ y. y) r x
+-- where the code keeps just what was read
+abbrev pub Reads : {A : Type 0} → (ℕ → List ℕ → Read A) → Reader → Reader → Result A Wrong → Type 0
+Reads reader before after x = ReadsAs (λ y. y) reader before after x

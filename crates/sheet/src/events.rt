@@ -1,7 +1,7 @@
 // The events of a sheet, each by the place where it stands.
 ghost use Rattle.std.specs.Prelude.{◌≡◌};
 ghost use Rattle.sheet.specs.Events.{program, fields, event, event_at};
-ghost use Rattle.sheet.specs.Told.{reads, told, told_as};
+ghost use Rattle.sheet.specs.Told.{Reads, ReadsAs};
 ghost use Rattle.sheet.specs.Readers.{word, any};
 
 use crate::readers::{Reader, Wrong};
@@ -48,8 +48,7 @@ impl Reader<'_> {
     // A begin: the count of its program's steps, and their bytes.
     #[tactic(auto, unfolding(crate::specs::Events::program))]
     fn program(&mut self) -> Result<Event, Wrong>
-        ensures told { reads program self.old ≡ told self.new result }
-        ensures kept { self.new.sheet.now ≡ self.old.sheet.now }
+        ensures { Reads program self.old self.new result }
     {
         let steps = self.byte()?;
         let from = self.at;
@@ -59,8 +58,7 @@ impl Reader<'_> {
 
     // A transaction number.
     fn number(&mut self) -> Result<TransactionNumber, Wrong>
-        ensures told { reads (word any) self.old ≡ told_as (λ n. n.0) self.new result }
-        ensures kept { self.new.sheet.now ≡ self.old.sheet.now }
+        ensures { ReadsAs (λ n. n.0) (word any) self.old self.new result }
     {
         Ok(TransactionNumber(self.word()?))
     }
@@ -68,8 +66,7 @@ impl Reader<'_> {
     // What stands behind an event's kind.
     #[tactic(auto, unfolding(crate::specs::Events::fields, crate::specs::Events::at_district, crate::specs::Events::on_number, crate::specs::Events::of_item))]
     fn fields(&mut self, kind: usize) -> Result<Event, Wrong>
-        ensures told { reads (fields kind) self.old ≡ told self.new result }
-        ensures kept { self.new.sheet.now ≡ self.old.sheet.now }
+        ensures { Reads (fields kind) self.old self.new result }
     {
         match kind {
             1 => self.program(),
@@ -98,8 +95,7 @@ impl Reader<'_> {
     // An event.
     #[tactic(auto, unfolding(crate::specs::Events::event))]
     pub(crate) fn event(&mut self) -> Result<Event, Wrong>
-        ensures told { reads event self.old ≡ told self.new result }
-        ensures kept { self.new.sheet.now ≡ self.old.sheet.now }
+        ensures { Reads event self.old self.new result }
     {
         let kind = self.byte_between(1, 7)?;
         self.fields(kind)

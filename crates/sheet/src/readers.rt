@@ -2,7 +2,7 @@
 ghost use Rattle.std.specs.Prelude.{◌≡◌, ◌+◌, ◌*◌, ◌≤◌, ◌^◌, take, IfOk};
 ghost use Rattle.sheet.specs.Readers.{byte, word, part, any, between};
 ghost use Rattle.sheet.specs.Sections.{value};
-ghost use Rattle.sheet.specs.Told.{reads, left, told, told_as};
+ghost use Rattle.sheet.specs.Told.{Reads, ReadsAs, left};
 
 use polyvalues::{in_range, of_bytes};
 
@@ -21,8 +21,7 @@ impl Reader<'_> {
     // A byte.
     #[tactic(auto, using(crate::proofs::Reading::byte_past, crate::proofs::Reading::byte_there))]
     pub(crate) fn byte(&mut self) -> Result<u8, Wrong>
-        ensures told { reads (byte any) self.old ≡ told self.new result }
-        ensures kept { self.new.sheet.now ≡ self.old.sheet.now }
+        ensures { Reads (byte any) self.old self.new result }
     {
         let &value = self.sheet.get(self.at).ok_or(Wrong(self.at))?;
         self.at += 1;
@@ -32,8 +31,7 @@ impl Reader<'_> {
     // A byte from the lowest to the highest.
     #[tactic(auto, using(crate::proofs::Reading::tested_byte))]
     pub(crate) fn byte_between(&mut self, low: usize, high: usize) -> Result<usize, Wrong>
-        ensures told { reads (byte (between low high)) self.old ≡ told self.new result }
-        ensures kept { self.new.sheet.now ≡ self.old.sheet.now }
+        ensures reads { Reads (byte (between low high)) self.old self.new result }
         ensures value_le_high { IfOk result (λ n. n ≤ high) }
     {
         let at = self.at;
@@ -47,8 +45,7 @@ impl Reader<'_> {
     // Two bytes, high first.
     #[tactic(auto, using(crate::proofs::Reading::two_bytes))]
     fn two(&mut self) -> Result<(u8, u8), Wrong>
-        ensures told { reads (word any) self.old ≡ told_as (λ b. b.0 * 2 ^ 8 + b.1) self.new result }
-        ensures kept { self.new.sheet.now ≡ self.old.sheet.now }
+        ensures { ReadsAs (λ b. b.0 * 2 ^ 8 + b.1) (word any) self.old self.new result }
     {
         let high = self.byte()?;
         let low = self.byte()?;
@@ -57,8 +54,7 @@ impl Reader<'_> {
 
     // Two bytes that are a number.
     pub(crate) fn word(&mut self) -> Result<u16, Wrong>
-        ensures told { reads (word any) self.old ≡ told self.new result }
-        ensures kept { self.new.sheet.now ≡ self.old.sheet.now }
+        ensures { Reads (word any) self.old self.new result }
     {
         let (high, low) = self.two()?;
         Ok(u16::from_be_bytes([high, low]))
@@ -67,8 +63,7 @@ impl Reader<'_> {
     // Two bytes that are a value in two's complement.
     #[tactic(auto, using(crate::proofs::Reading::value_of), unfolding(polyvalues::specs::Values::of_bytes))]
     pub(crate) fn value(&mut self) -> Result<i16, Wrong>
-        ensures told { reads value self.old ≡ told self.new result }
-        ensures kept { self.new.sheet.now ≡ self.old.sheet.now }
+        ensures { Reads value self.old self.new result }
     {
         let at = self.at;
         let (high, low) = self.two()?;
@@ -84,8 +79,7 @@ impl Reader<'_> {
     // So many bytes, whatever they are.
     #[tactic(auto, using(crate::proofs::Reading::part_good, crate::proofs::Reading::part_short))]
     pub(crate) fn part(&mut self, n: usize) -> Result<(), Wrong>
-        ensures told { reads (part n) self.old ≡ told_as (λ _. take n (left self.old)) self.new result }
-        ensures kept { self.new.sheet.now ≡ self.old.sheet.now }
+        ensures { ReadsAs (λ _. take n (left self.old)) (part n) self.old self.new result }
     {
         let left = self.sheet.len().saturating_sub(self.at);
         if left < n {

@@ -6,7 +6,7 @@ ghost use Rattle.sheet.specs.declared.events.Event.{Event};
 ghost use Rattle.sheet.specs.Readers.{wrong, right, repeat, one_more};
 ghost use Rattle.sheet.specs.Events.{event};
 ghost use Rattle.sheet.specs.Sections.{code, districts, item, items, events, sheet as whole};
-ghost use Rattle.sheet.specs.Told.{reads, told, told_as};
+ghost use Rattle.sheet.specs.Told.{Reads, ReadsAs};
 
 use crate::readers::{Reader, Wrong};
 use book::{DISTRICTS, ITEMS, Opening, Openings};
@@ -30,8 +30,7 @@ impl Reader<'_> {
     // District codes, each above the one before it: the last of them.
     #[tactic(auto, using(crate::proofs::Repeating::repeat_more, crate::proofs::Repeating::repeat_done, crate::proofs::Reading::code_of))]
     fn codes(&mut self, n: usize) -> Result<u8, Wrong>
-        ensures told { reads (repeat n code 0) self.old ≡ told self.new result }
-        ensures kept { self.new.sheet.now ≡ self.old.sheet.now }
+        ensures { Reads (repeat n code 0) self.old self.new result }
     {
         let mut last = 0;
         for _ in 0..n {
@@ -48,8 +47,7 @@ impl Reader<'_> {
     // The count of districts.
     #[tactic(auto, unfolding(crate::specs::Sections::districts))]
     fn districts(&mut self) -> Result<usize, Wrong>
-        ensures told { reads districts self.old ≡ told self.new result }
-        ensures kept { self.new.sheet.now ≡ self.old.sheet.now }
+        ensures { Reads districts self.old self.new result }
     {
         let count = self.byte_between(1, DISTRICTS)?;
         self.codes(count)?;
@@ -59,8 +57,7 @@ impl Reader<'_> {
     // An item, where there are so many districts.
     #[tactic(auto, using(crate::proofs::Reading::tested_byte), unfolding(crate::specs::Sections::item))]
     fn item(&mut self, districts: usize) -> Result<Opening, Wrong>
-        ensures told { reads (item districts) self.old ≡ told self.new result }
-        ensures kept { self.new.sheet.now ≡ self.old.sheet.now }
+        ensures { Reads (item districts) self.old self.new result }
     {
         let at = self.at;
         let district = self.byte()?;
@@ -75,8 +72,7 @@ impl Reader<'_> {
     #[tactic(auto, using(crate::proofs::Repeating::repeat_more, crate::proofs::Repeating::repeat_done), unfolding(crate::specs::Readers::one_more, book::specs::Openings::openings_of))]
     fn items_from(&mut self, districts: usize, n: usize) -> Result<Openings, Wrong>
         requires { n ≤ most_items }
-        ensures told { reads (repeat n (one_more (item districts)) []) self.old ≡ told_as openings_of self.new result }
-        ensures kept { self.new.sheet.now ≡ self.old.sheet.now }
+        ensures reads { ReadsAs openings_of (repeat n (one_more (item districts)) []) self.old self.new result }
         ensures count_le_most_items { IfOk result (λ t. t.count ≤ most_items) }
     {
         let none = Opening {
@@ -93,8 +89,7 @@ impl Reader<'_> {
     // The items.
     #[tactic(auto, unfolding(crate::specs::Sections::items))]
     fn items(&mut self, districts: usize) -> Result<Openings, Wrong>
-        ensures told { reads (items districts) self.old ≡ told_as openings_of self.new result }
-        ensures kept { self.new.sheet.now ≡ self.old.sheet.now }
+        ensures reads { ReadsAs openings_of (items districts) self.old self.new result }
         ensures count_le_most_items { IfOk result (λ t. t.count ≤ most_items) }
     {
         let count = self.byte_between(1, ITEMS)?;
@@ -104,8 +99,7 @@ impl Reader<'_> {
     // So many events.
     #[tactic(auto, using(crate::proofs::Repeating::repeat_more, crate::proofs::Repeating::repeat_done), unfolding(crate::specs::Readers::one_more))]
     fn events_from(&mut self, n: usize) -> Result<(), Wrong>
-        ensures told { (es : List Event) × (reads (repeat n (one_more event) []) self.old ≡ told_as (λ _. es) self.new result) }
-        ensures kept { self.new.sheet.now ≡ self.old.sheet.now }
+        ensures { (es : List Event) × (ReadsAs (λ _. es) (repeat n (one_more event) []) self.old self.new result) }
     {
         for _ in 0..n {
             self.event()?;
@@ -116,8 +110,7 @@ impl Reader<'_> {
     // The events.
     #[tactic(auto, unfolding(crate::specs::Sections::events))]
     fn events(&mut self) -> Result<EventsAt, Wrong>
-        ensures told { (es : List Event) × (reads events self.old ≡ told_as (λ x. record { count = x.count; first = x.first; each = es }) self.new result) }
-        ensures kept { self.new.sheet.now ≡ self.old.sheet.now }
+        ensures { (es : List Event) × (ReadsAs (λ x. record { count = x.count; first = x.first; each = es }) events self.old self.new result) }
     {
         let count = usize::from(self.word()?);
         let first = self.at;

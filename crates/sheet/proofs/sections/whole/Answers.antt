@@ -11,8 +11,8 @@ pub returns-clause-ok : goal.returns-clause-ok
 unfolding sheet
 returns-clause-ok c =
     let kept : c.events.new.self.sheet.now ≡ c.args.sheet.now = cc in (
-      c.in_ok-events.ensures.told.0,
+      c.in_ok-events.ensures.0,
       c.events.new.self.at,
       left c.events.new.self,
-      rw (c.in_ok-districts.ensures.told, c.in_ok-items.ensures.told, c.in_ok-events.ensures.told.1) (end_past _ _ _ (omega (arith, ap length kept))),
+      rw (c.in_ok-districts.ensures.told, c.in_ok-items.ensures.reads.told, c.in_ok-events.ensures.1.told) (end_past _ _ _ (omega (arith, ap length kept))),
     )

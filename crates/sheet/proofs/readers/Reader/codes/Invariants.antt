@@ -3,11 +3,11 @@ use mathlib.Core.Path.{◌≡◌}
 use Prim.Native.Nat.{◌-◌}
 use Rattle.sheet.specs.Readers.{repeat}
 use Rattle.sheet.specs.Sections.{code}
-use Rattle.sheet.specs.Told.{reads}
+use Rattle.sheet.specs.Told.{left}
 use Rattle.sheet.proofs.readers.Reader.codes.Given as goal
 
 abbrev pub invariant-loop : goal.invariant-loop
 invariant-loop l = record {
   kept : l.self.sheet.now ≡ l.fn.self.sheet.now;
-  tells : reads (repeat l.n code 0) l.fn.self ≡ reads (repeat (l.n - l.counter) code l.last) l.self;
+  tells : repeat l.n code 0 l.fn.self.at (left l.fn.self) ≡ repeat (l.n - l.counter) code l.last l.self.at (left l.self);
 }

@@ -14,6 +14,9 @@ loop-row-preserved c = record {
   tells = c.loop-row.invariant.tells ∙ rows_more (item _) _ _ _ _ _ (omega arith) (omega arith) c.in_ok-row.ensures.told;
 }
 
-pub returns-clause-told : goal.returns-clause-told
+pub returns-clause-reads : goal.returns-clause-reads
 unfolding openings_of
-returns-clause-told c = c.loop-row.invariant.tells ∙ rows_read (item _) _ _ _ _ _ _ (omega arith) c.loop-row.invariant.rows
+returns-clause-reads c = record {
+  told = c.loop-row.invariant.tells ∙ rows_read (item _) _ _ _ _ _ _ (omega arith) c.loop-row.invariant.rows;
+  kept = c.loop-row.invariant.kept;
+}
