@@ -9,7 +9,7 @@ ghost use Rattle.std.specs.Prelude.{◌≤◌, length};
 
 use book::Answer;
 use conditions::Written;
-use sheet::{LONGEST_LINE, MOST_BYTES, Opened, Read, event_at, open, play, write_refusal};
+use sheet::{Found, LONGEST_LINE, MOST_BYTES, Opened, event_at, open, play, write_refusal};
 
 // Standard input and standard output, as the system numbers them.
 const STDIN: i32 = 0;
@@ -39,7 +39,7 @@ fn play_all(opened: Opened, sheet: &[u8], out: &mut [u8]) {
     let mut at = opened.first;
     let mut waiting: usize = 0;
     for position in 1..=opened.count as u64 {
-        let Ok(Read { value: event, next }) = event_at(sheet, at) else {
+        let Ok(Found { event, next }) = event_at(sheet, at) else {
             return;
         };
         waiting = room(out, waiting);

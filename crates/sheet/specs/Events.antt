@@ -4,7 +4,7 @@ use Rattle.std.specs.Prelude.{cond, List, ℕ, ◌*◌, eqb, drop, Result, Ok, E
 use Rattle.conditions.specs.declared.place.TransactionNumber.{TransactionNumber}
 use Rattle.sheet.specs.declared.events.Event.{Event}
 use Rattle.sheet.specs.declared.events.Event.TheVariants.{Begin, Ready, GiveUp, Complete, Abort, Hear, Show}
-use Rattle.sheet.specs.declared.events.Read.{Read as Found}
+use Rattle.sheet.specs.declared.events.Found.{Found}
 use Rattle.sheet.specs.declared.readers.Wrong.{Wrong}
 use Rattle.sheet.specs.Readers.{Read, wrong, right, and_then, byte, word, part, any, between}
 

@@ -5,7 +5,7 @@ use Rattle.std.specs.Prelude.{◌≡◌, cond, List, [], ◌∷◌, ◌++◌, �
 use Rattle.book.specs.declared.Book.{Book}
 use Rattle.book.specs.Answers.{accepted}
 use Rattle.sheet.specs.declared.events.Event.{Event}
-use Rattle.sheet.specs.declared.events.Read.{Read as Found}
+use Rattle.sheet.specs.declared.events.Found.{Found}
 use Rattle.sheet.specs.declared.readers.Wrong.{Wrong}
 use Rattle.sheet.specs.declared.opening.Opened.{Opened}
 use Rattle.sheet.specs.Events.{event_at}

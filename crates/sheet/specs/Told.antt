@@ -1,5 +1,7 @@
 -- What a reader of the code answers: what was read, or the place that is wrong. It leaves the sheet as it is, and its place afterwards is the one behind what was read.
 use Rattle.std.specs.Prelude.{◌≡◌, List, ℕ, drop, Result, Ok, Err}
+use Rattle.sheet.specs.declared.events.Event.{Event}
+use Rattle.sheet.specs.declared.events.Found.{Found}
 use Rattle.sheet.specs.declared.readers.Reader.{Reader}
 use Rattle.sheet.specs.declared.readers.Wrong.{Wrong}
 use Rattle.sheet.specs.Readers.{Read, wrong, right}
@@ -21,3 +23,8 @@ pub record ReadsAs {T A : Type 0} (f : T → A) (reader : ℕ → List ℕ → R
 -- where the code keeps just what was read
 abbrev pub Reads : {A : Type 0} → (ℕ → List ℕ → Read A) → Reader → Reader → Result A Wrong → Type 0
 Reads reader before after x = ReadsAs (λ y. y) reader before after x
+
+-- the same of an event that was asked for by its place in the sheet s
+abbrev pub told_event : List ℕ → Result Found Wrong → Read Event
+told_event s (Ok x) = right x.event x.next (drop x.next s)
+told_event s (Err e) = wrong e.0

@@ -1,7 +1,7 @@
 // The events of a sheet, each by the place where it stands.
-ghost use Rattle.std.specs.Prelude.{◌≡◌};
+ghost use Rattle.std.specs.Prelude.{◌≡◌, drop};
 ghost use Rattle.sheet.specs.Events.{program, fields, event, event_at};
-ghost use Rattle.sheet.specs.Told.{Reads, ReadsAs};
+ghost use Rattle.sheet.specs.Told.{Reads, ReadsAs, told_event};
 ghost use Rattle.sheet.specs.Readers.{word, any};
 
 use crate::readers::{Reader, Wrong};
@@ -37,9 +37,9 @@ pub enum Event {
     },
 }
 
-// An event that was read, and the place behind it.
+// An event that was found, and the place behind it.
 #[derive(Clone, Copy)]
-pub struct Read {
+pub struct Found {
     pub event: Event,
     pub next: usize,
 }
@@ -104,12 +104,13 @@ impl Reader<'_> {
 
 // What stands at a place of the sheet: an event, and the place behind it.
 #[tactic(auto, unfolding(crate::specs::Events::event_at))]
-pub fn event_at(sheet: &[u8], at: usize) -> Result<Read, Wrong>
-    ensures { result ≡ event_at sheet.now at }
+pub fn event_at(sheet: &[u8], at: usize) -> Result<Found, Wrong>
+    ensures value { result ≡ event_at sheet.now at }
+    ensures sheet_value { event at (drop at sheet.now) ≡ told_event sheet.now result }
 {
     let mut reader = Reader { sheet, at };
     let event = reader.event()?;
-    Ok(Read {
+    Ok(Found {
         event,
         next: reader.at,
     })
