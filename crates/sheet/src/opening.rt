@@ -12,6 +12,7 @@ pub const MOST_BYTES: usize = 32768;
 
 // Whether the sheet opened its book, and the place that 13 or 14 gives; the book; where the first
 // event stands, and how many there are. Refused, the book is all zero, and so are the numbers.
+// kept: no Result, since document 01 gives a refused call the all-zero book (`open_sheet`, law `refused-zero`).
 #[derive(Clone, Copy)]
 pub struct Opened {
     pub answer: Answer,

@@ -7,7 +7,7 @@ ghost use Rattle.sheet.specs.Told.{Reads, ReadsAs, left};
 use polyvalues::{in_range, of_bytes};
 
 // The place of the first wrong byte.
-#[derive(Clone, Copy)]
+#[derive(Clone, Copy, Debug, PartialEq, Eq)]
 pub struct Wrong(pub usize);
 
 // The sheet, and the place where the next reading begins.
@@ -65,12 +65,10 @@ impl Reader<'_> {
     pub(crate) fn value(&mut self) -> Result<i16, Wrong>
         ensures { Reads value self.old self.new result }
     {
-        let at = self.at;
+        let first = self.at;
         let (high, low) = self.two()?;
-        let next = self.at;
         let value = of_bytes(high, low);
         if !in_range(i32::from(value)) {
-            let first = at;
             return Err(Wrong(first));
         }
         Ok(value)
