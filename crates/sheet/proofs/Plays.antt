@@ -19,7 +19,8 @@ use Rattle.sheet.specs.declared.events.Event.{Event}
 use Rattle.sheet.specs.declared.playing.Played.{Played}
 use Rattle.sheet.specs.Lines.{event_line, lent_room, longest_line, line_answer, line_written}
 use Rattle.sheet.specs.Play.{EventResult, of_show, event_result, result_line, played, played_buffer}
-use Rattle.sheet.specs.Plays.{head, Plays}
+use Rattle.sheet.specs.declared.lines.Line.{Line}
+use Rattle.sheet.specs.Plays.{head, Plays, Puts}
 use Rattle.sheet.proofs.Writing.{line-written, shown-line, refused-line}
 
 -- ---- the answer number that the code tests
@@ -39,6 +40,11 @@ plays x position {l} {m} {end} p h =
     let w = line-written p (omega (arith, p.ends)) in
     let ends = w.0 in
     record { result = λ k. record { written = To (ends k); book = x.book }; buffer = w.1 }
+
+-- the same of a line that was put from its buffer's start on
+pub line_plays : (x : EventResult) (position : ℕ) {a b : Line} → a.end ≡ 0 → Puts a b (result_line position x) → b.end ≤ length a.buf.now
+    → Plays x position a.buf.now (record { written = To b.end; book = x.book }) b.buf.now
+line_plays x position start p h = plays x position (rw start at p.put) h
 
 -- show's line
 module _ (w : ℕ) (b : Book) (i position : ℕ) where

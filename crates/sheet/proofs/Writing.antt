@@ -1,5 +1,5 @@
 -- Lines that are put into a buffer, byte by byte.
-use mathlib.Core.Path.{◌≡◌, sym, ap, ◌∙◌}
+use mathlib.Core.Path.{◌≡◌, refl, sym, ap, ◌∙◌}
 use mathlib.Core.Bool.{true, false}
 use mathlib.Core.List.{List, [], ◌∷◌, ◌++◌, append-nil, append_assoc}
 use Prim.Native.Nat.{ℕ, ◌+◌, ◌-◌, ◌^◌, ◌≤◌, ◌<◌}
@@ -8,17 +8,19 @@ use native.Mathlib.Omega.{arith}
 use lib.ListN.{length, take, drop, length-append, length-drop, drop_of_length-le}
 use lib.Seq.{take-nil, take_all, sets, sets-eq, drop-append-add, drop-drop}
 use borrow.Author.Tests.{le-leb, lt-leb}
+use borrow.Rule.Slice.PartMut.{put_mid}
 use Rattle.conditions.proofs.Laws.Below.{by_cases}
 use Rattle.conditions.specs.declared.text.Written.TheVariants.{To, NoRoom}
 use Rattle.conditions.specs.Text.{bytes, decimal, prefixed, joined}
 use Rattle.conditions.specs.Written.{written, Put}
 use Rattle.conditions.proofs.Laws.Text.{decimal-some, decimal-le, decimal-one, prefixed-snoc}
-use Rattle.conditions.proofs.Putting.{put-length, put_written}
+use Rattle.conditions.proofs.Putting.{put-length, put_then, put_written}
 use Rattle.book.specs.declared.Answer.{Answer}
 use Rattle.book.specs.declared.Answer.TheVariants.{Accepted}
 use Rattle.book.specs.Answers.{answer_number, accepted}
 use Rattle.sheet.specs.Lines.{line, event_line, refusal_line, lent_room, longest_line, line_answer, line_written}
-use Rattle.sheet.specs.Plays.{field, head}
+use Rattle.sheet.specs.declared.lines.Line.{Line}
+use Rattle.sheet.specs.Plays.{field, head, Puts}
 
 -- ---- the bytes from a place up to another
 
@@ -33,6 +35,23 @@ module _ (s : List ℕ) (from to : ℕ) where
   all-behind h =
       let long : length (drop from s) ≤ to - from = rw (length-drop from s) (omega arith) in
       take_all (length s - from) (drop from s) (rw (length-drop from s) (omega arith)) ∙ sym (take_all (to - from) (drop from s) long)
+
+-- ---- texts behind what a line has
+
+module _ {a b : Line} where
+  pub puts_then : {c : Line} {s t : List ℕ} → Puts a b s → Puts b c t → Puts a c (s ++ t)
+  puts_then p q = record { put = put_then p.put q.put; lent = q.lent ∙ p.lent; long = q.long ∙ p.long }
+
+-- bytes that are copied into a part as long as they are
+pub copied : (at : ℕ) (xs t : List ℕ) {part : List ℕ} → at + length t ≤ length xs → part ≡ t → Put xs (put_mid at (at + length t - at) xs part) at (at + length t) t
+copied at xs t h e =
+    let k : at + length t - at ≡ length t = omega arith in
+    record {
+      ends = refl;
+      holds =
+          rw (e, k)
+          (ap (λ (r : List ℕ). take at xs ++ (t ++ r)) (drop-drop (length t) at xs) ∙ sym (append_assoc (take at xs) t (drop (at + length t) xs)) ∙ sym (sets-eq t xs at h));
+    }
 
 -- ---- the lines as the code puts them, field by field
 

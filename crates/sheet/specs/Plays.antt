@@ -3,9 +3,10 @@ use Rattle.std.specs.Prelude.{◌≡◌, List, [], ◌∷◌, ℕ, length}
 use Prim.Native.Char.{code}
 use Rattle.conditions.specs.declared.text.Written.TheVariants.{To}
 use Rattle.conditions.specs.Text.{decimal, joined}
-use Rattle.conditions.specs.Written.{written}
+use Rattle.conditions.specs.Written.{written, Put}
 use Rattle.book.specs.declared.Answer.{Answer}
 use Rattle.book.specs.Answers.{answer_number}
+use Rattle.sheet.specs.declared.lines.Line.{Line}
 use Rattle.sheet.specs.declared.playing.Played.{Played}
 use Rattle.sheet.specs.Play.{EventResult, result_line}
 
@@ -21,3 +22,9 @@ head position a = joined (code " ") (decimal position ∷ decimal (answer_number
 pub record Plays (x : EventResult) (position : ℕ) (l : List ℕ) (r : Played) (m : List ℕ) : Type 0 where
   pub result : r ≡ record { written = To (length (result_line position x)); book = x.book }
   pub buffer : m ≡ written l 0 (result_line position x)
+
+-- a text is put behind what the line has, into the buffer that it was lent
+pub record Puts (before after : Line) (text : List ℕ) : Type 0 where
+  pub put : Put before.buf.now after.buf.now before.end after.end text
+  pub lent : after.buf.ghost_name ≡ before.buf.ghost_name
+  pub long : length after.buf.now ≡ length before.buf.now

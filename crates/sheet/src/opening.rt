@@ -4,7 +4,7 @@ ghost use Rattle.conditions.specs.Places.{places};
 ghost use Rattle.sheet.specs.Open.{refused, open_sheet};
 
 use crate::readers::Wrong;
-use crate::sections::whole;
+use crate::sections::{Sheet, whole};
 use book::{Answer, Book, opened, zero_book};
 
 // How many bytes a sheet may have.
@@ -45,12 +45,18 @@ pub fn open(sheet: &[u8]) -> Opened
         return refused(Answer::TooLong, 0);
     }
     match whole(sheet) {
-        Ok(value) => Opened {
+        Ok(
+            Sheet {
+                districts,
+                items,
+                events,
+            },
+        ) => Opened {
             answer: Answer::Accepted,
             place: 0,
-            book: opened(value.districts, value.items),
-            first: value.events.first,
-            count: value.events.count,
+            book: opened(districts, items),
+            first: events.first,
+            count: events.count,
         },
         Err(Wrong(place)) => refused(Answer::Malformed, place),
     }

@@ -2,11 +2,11 @@
 ghost use Rattle.std.specs.Prelude.{◌≡◌, ◌-◌, ◌≤◌, length, take, drop};
 ghost use Rattle.conditions.specs.Places.{places};
 ghost use Rattle.sheet.specs.Lines.{longest_line};
-ghost use Rattle.sheet.specs.Play.{of_begun, of_done, of_show, played, played_buffer};
+ghost use Rattle.sheet.specs.Play.{of_begun, of_done, of_show, event_result, played, played_buffer};
 ghost use Rattle.sheet.specs.Plays.{Plays};
 
 use crate::events::Event;
-use crate::lines::{LENT, LONGEST_LINE, put_byte, put_field, put_head, put_plain};
+use crate::lines::{LENT, LONGEST_LINE, Line};
 use book::{Answer, Begun, Book, Done};
 use conditions::Written;
 
@@ -35,70 +35,87 @@ fn between(sheet: &[u8], from: usize, to: usize) -> &[u8]
 }
 
 // The line of a begin.
-fn begun(x: Begun, position: u64, buf: &mut [u8]) -> Played
-    requires { longest_line ≤ length buf.old }
-    ensures { Plays (of_begun x) position buf.old result buf.new }
+fn begun(x: Begun, position: u64, line: &mut Line) -> Played
+    requires start { line.old.end ≡ 0 }
+    requires room { longest_line ≤ length line.old.buf.now }
+    ensures plays { Plays (of_begun x) position line.old.buf.now result line.new.buf.now }
+    ensures lent { line.new.buf.ghost_name ≡ line.old.buf.ghost_name }
 {
     let answer = x.answer;
-    let book = x.book;
-    if answer.number() != 0 {
-        let end = put_plain(buf, position, answer);
-        return Played {
-            written: Written::To(end),
-            book,
-        };
+    line.head(position, answer);
+    if answer.number() == 0 {
+        line.field(u64::from(x.number.0));
+        line.field(u64::from(x.grant));
     }
-    let n = x.number;
-    let head = put_head(buf, position, answer);
-    let number = put_field(buf, head, n.0 as u64);
-    let grant = put_field(buf, number, x.grant as u64);
-    let end = put_byte(buf, grant, b'\n');
+    line.byte(b'\n');
     Played {
-        written: Written::To(end),
-        book,
+        written: Written::To(line.end),
+        book: x.book,
     }
 }
 
 // The line of an event that prints nothing after its answer number.
-fn done(x: Done, position: u64, buf: &mut [u8]) -> Played
-    requires { longest_line ≤ length buf.old }
-    ensures { Plays (of_done x) position buf.old result buf.new }
+fn done(x: Done, position: u64, line: &mut Line) -> Played
+    requires start { line.old.end ≡ 0 }
+    requires room { longest_line ≤ length line.old.buf.now }
+    ensures plays { Plays (of_done x) position line.old.buf.now result line.new.buf.now }
+    ensures lent { line.new.buf.ghost_name ≡ line.old.buf.ghost_name }
 {
-    let answer = x.answer;
-    let book = x.book;
-    let end = put_plain(buf, position, answer);
+    line.plain(position, x.answer);
     Played {
-        written: Written::To(end),
-        book,
+        written: Written::To(line.end),
+        book: x.book,
     }
 }
 
 // Show, and its line: what stands before the line that show writes is put first, as if show were
 // accepted. A refused show leaves its bytes as they were, and its own line is longer than that.
-fn shown(book: Book, item: u8, position: u64, buf: &mut [u8]) -> Played
-    requires { longest_line ≤ length buf.old }
-    ensures { Plays (of_show places book item) position buf.old result buf.new }
+fn shown(book: Book, item: u8, position: u64, line: &mut Line) -> Played
+    requires start { line.old.end ≡ 0 }
+    requires room { longest_line ≤ length line.old.buf.now }
+    ensures plays { Plays (of_show places book item) position line.old.buf.now result line.new.buf.now }
+    ensures lent { line.new.buf.ghost_name ≡ line.old.buf.ghost_name }
 {
-    let head = put_head(buf, position, Answer::Accepted);
-    let from = put_byte(buf, head, b' ');
-    let to = from + LENT;
-    let x = book.show(item, &mut buf[from..to]);
+    line.head(position, Answer::Accepted);
+    line.byte(b' ');
+    let from = line.end;
+    let x = book.show(item, &mut line.buf[from..from + LENT]);
     let answer = x.answer;
-    if answer.number() != 0 {
-        let end = put_plain(buf, position, answer);
-        return Played {
-            written: Written::To(end),
-            book,
-        };
+    if answer.number() == 0 {
+        line.end = from + x.end;
+        line.byte(b'\n');
+    } else {
+        line.end = 0;
+        line.plain(position, answer);
     }
-    let end = put_byte(buf, from + x.end, b'\n');
     Played {
-        written: Written::To(end),
+        written: Written::To(line.end),
         book,
     }
 }
 
-// The call: an event of the sheet, at its position, on the book.
+// An event of the sheet, at its position, on the book.
+fn play_line(book: Book, sheet: &[u8], event: Event, position: u64, line: &mut Line) -> Played
+    requires start { line.old.end ≡ 0 }
+    requires room { longest_line ≤ length line.old.buf.now }
+    ensures plays { Plays (event_result places book sheet.now event) position line.old.buf.now result line.new.buf.now }
+    ensures lent { line.new.buf.ghost_name ≡ line.old.buf.ghost_name }
+{
+    match event {
+        Event::Begin { from, to } => {
+            let steps = between(sheet, from, to);
+            begun(book.begin(steps), position, line)
+        }
+        Event::Ready { number, district } => done(book.ready(number, district), position, line),
+        Event::GiveUp { number, district } => done(book.give_up(number, district), position, line),
+        Event::Complete { number } => done(book.complete(number), position, line),
+        Event::Abort { number } => done(book.abort(number), position, line),
+        Event::Hear { number, district } => done(book.hear(number, district), position, line),
+        Event::Show { item } => shown(book, item, position, line),
+    }
+}
+
+// The call. Where the buffer has no room for any line, nothing is played.
 pub fn play(book: Book, sheet: &[u8], event: Event, position: u64, buf: &mut [u8]) -> Played
     ensures value { result ≡ played places book sheet.now event position buf.old }
     ensures buf_after { buf.new ≡ played_buffer places book sheet.now event position buf.old }
@@ -109,16 +126,6 @@ pub fn play(book: Book, sheet: &[u8], event: Event, position: u64, buf: &mut [u8
             book,
         };
     }
-    match event {
-        Event::Begin { from, to } => {
-            let steps = between(sheet, from, to);
-            begun(book.begin(steps), position, buf)
-        }
-        Event::Ready { number, district } => done(book.ready(number, district), position, buf),
-        Event::GiveUp { number, district } => done(book.give_up(number, district), position, buf),
-        Event::Complete { number } => done(book.complete(number), position, buf),
-        Event::Abort { number } => done(book.abort(number), position, buf),
-        Event::Hear { number, district } => done(book.hear(number, district), position, buf),
-        Event::Show { item } => shown(book, item, position, buf),
-    }
+    let mut line = Line { buf, end: 0 };
+    play_line(book, sheet, event, position, &mut line)
 }

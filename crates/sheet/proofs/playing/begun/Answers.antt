@@ -1,13 +1,24 @@
--- The plain line where begin is refused, else one with number and grant.
+-- A number and a grant where begin is accepted.
 use native.Mathlib.Omega.{arith}
-use Rattle.conditions.proofs.Putting.{put_then}
 use Rattle.sheet.specs.Play.{of_begun}
-use Rattle.sheet.proofs.Writing.{refused-line, begun-line}
-use Rattle.sheet.proofs.Plays.{plays, number-refused, number-accepted}
+use Rattle.sheet.proofs.Writing.{puts_then, plain-line, refused-line, begun-line}
+use Rattle.sheet.proofs.Plays.{line_plays, number-refused, number-accepted}
+use Rattle.sheet.proofs.playing.begun.Goals.{then-number-eq0, else-number-eq0}
 use Rattle.sheet.proofs.playing.begun.Goals as goal
 
-pub returns-then-number-ne0 : goal.returns-then-number-ne0
-returns-then-number-ne0 c = plays (of_begun c.args.x) c.args.position (rw (refused-line _ _ (number-refused c.args.x.answer c.number.ensures c.if-number-ne0.true) (of_begun c.args.x).more) at c.put_plain-end.ensures.put) (omega (arith, c.requires, c.put_plain-end.ensures.upper_bound))
-
-pub returns : goal.returns
-returns c = plays (of_begun c.args.x) c.args.position (rw (begun-line _ _ (number-accepted c.args.x.answer c.number.ensures c.if-number-ne0.false) _ _) at (put_then (put_then (put_then c.put_head-head.ensures.put c.put_field-number.ensures.put) c.put_field-grant.ensures.put) c.put_byte-end.ensures)) (omega (arith, c.requires, c.put_head-head.ensures.upper_bound, c.put_field-number.ensures.upper_bound, c.put_field-grant.ensures.upper_bound, c.put_byte-end.ensures.ends))
+pub returns-clause-plays : goal.returns-clause-plays
+returns-clause-plays c =
+    elim c.if-number-eq0.branch [
+      | then-number-eq0 w ↦
+          let number = rw w.from.ensures at w.field.ensures.put in
+          let grant = rw w.from-then-number-eq0.ensures at w.field-then-number-eq0.ensures.put in
+          let end = rw w.line-is at c.byte.ensures in
+          line_plays (of_begun c.args.x) c.args.position c.requires.start
+          (rw (begun-line _ _ (number-accepted c.args.x.answer c.number.ensures w.if-number-eq0.true) _ _) at (puts_then (puts_then (puts_then c.head.ensures.put number) grant) end))
+          (omega (arith, c.requires.room, c.head.ensures.upper_bound, w.field.ensures.upper_bound, w.field-then-number-eq0.ensures.upper_bound, end.put.ends))
+      | else-number-eq0 w ↦
+          let end = rw w.line-is at c.byte.ensures in
+          line_plays (of_begun c.args.x) c.args.position c.requires.start
+          (rw (plain-line _ _, refused-line _ _ (number-refused c.args.x.answer c.number.ensures w.if-number-eq0.false) (of_begun c.args.x).more) at (puts_then c.head.ensures.put end))
+          (omega (arith, c.requires.room, c.head.ensures.upper_bound, end.put.ends))
+    ]

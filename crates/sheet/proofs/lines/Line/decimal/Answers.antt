@@ -1,9 +1,9 @@
 -- There is room for twenty digits, so that it is written.
 use native.Mathlib.Omega.{arith}
-use mathlib.Core.Path.{sym, ◌∙◌}
+use mathlib.Core.Path.{refl, sym, ◌∙◌}
 use Rattle.conditions.proofs.Laws.Text.{decimal-le}
-use Rattle.conditions.proofs.Putting.{written-put, never-refused}
-use Rattle.sheet.proofs.lines.put_decimal.Goals as goal
+use Rattle.conditions.proofs.Putting.{put-length, written-put, never-refused}
+use Rattle.sheet.proofs.lines.Line.decimal.Goals as goal
 
 pub returns-in_default : goal.returns-in_default
 returns-in_default c =
@@ -14,6 +14,6 @@ returns c =
     let few = decimal-le 19 c.args.n (omega arith) in
     let put = written-put (omega (arith, c.requires)) (sym c.in-To.is ∙ c.write_decimal.ensures.value) c.write_decimal.ensures.buf_after in
     record {
-      put = put;
+      put = record { put = put; lent = refl; long = put-length put };
       upper_bound = omega (arith, put.ends);
     }
