@@ -2,12 +2,13 @@
 use mathlib.Core.Path.{◌≡◌, refl, sym, ap, ◌∙◌}
 use mathlib.Core.Bool.{true, false}
 use mathlib.Core.List.{List, [], ◌∷◌, ◌++◌, append-nil, append_assoc}
-use Prim.Native.Nat.{ℕ, ◌+◌, ◌-◌, ◌^◌, ◌≤◌, ◌<◌}
+use lib.Dec.{leb}
+use Prim.Native.Nat.{ℕ, min, ◌+◌, ◌-◌, ◌^◌, ◌≤◌, ◌<◌}
 use Prim.Native.Char.{code}
 use native.Mathlib.Omega.{arith}
 use lib.ListN.{length, take, drop, length-append, length-drop, drop_of_length-le}
 use lib.Seq.{take-nil, take_all, sets, sets-eq, drop-append-add, drop-drop}
-use borrow.Author.Tests.{le-leb, lt-leb}
+use borrow.Author.Tests.{le-leb, lt-leb, leb-true, leb-false}
 use borrow.Rule.Slice.PartMut.{put_mid}
 use Rattle.conditions.proofs.Laws.Below.{by_cases}
 use Rattle.conditions.specs.declared.text.Written.TheVariants.{To, NoRoom}
@@ -24,17 +25,23 @@ use Rattle.sheet.specs.Plays.{field, head, Puts}
 
 -- ---- the bytes from a place up to another
 
-module _ (s : List ℕ) (from to : ℕ) where
-  pub none_between : to ≤ from → [] ≡ take (to - from) (drop from s)
-  none_between h = let e : to - from ≡ 0 = omega arith in rw e
+module _ (s : List ℕ) (from to : ℕ) {start end : ℕ} (first : start ≡ min from end) (last : end ≡ min to (length s)) where
+  none_between : end ≤ from → take (end - start) (drop start s) ≡ take (to - from) (drop from s)
+  none_between h =
+      let none : end - start ≡ 0 = omega arith in
+      rw none (by_cases (leb to from) (λ t. let h : to ≤ from = leb-true to from t in let e : to - from ≡ 0 = omega arith in rw e)
+      (λ t. let h : from < to = leb-false to from t in let past : length s ≤ from = omega arith in rw (drop_of_length-le s past) (sym (take-nil (to - from)))))
 
-  pub none-behind : length s ≤ from → [] ≡ take (to - from) (drop from s)
-  none-behind h = rw (drop_of_length-le s h) (sym (take-nil (to - from)))
-
-  pub all-behind : length s < to → take (length s - from) (drop from s) ≡ take (to - from) (drop from s)
-  all-behind h =
+  some_between : from < end → take (end - start) (drop start s) ≡ take (to - from) (drop from s)
+  some_between h =
+      let e : start ≡ from = omega arith in
+      rw e (by_cases (leb to (length s)) (λ t. let h : to ≤ length s = leb-true to (length s) t in let e : end ≡ to = omega arith in rw e)
+      (λ t. let h : length s < to = leb-false to (length s) t in let e : end ≡ length s = omega arith in
       let long : length (drop from s) ≤ to - from = rw (length-drop from s) (omega arith) in
-      take_all (length s - from) (drop from s) (rw (length-drop from s) (omega arith)) ∙ sym (take_all (to - from) (drop from s) long)
+      rw e (take_all (length s - from) (drop from s) (rw (length-drop from s) (omega arith)) ∙ sym (take_all (to - from) (drop from s) long))))
+
+  pub within : take (end - start) (drop start s) ≡ take (to - from) (drop from s)
+  within = by_cases (leb end from) (λ t. none_between (leb-true end from t)) (λ t. some_between (leb-false end from t))
 
 -- ---- texts behind what a line has
 

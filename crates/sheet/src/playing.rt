@@ -22,16 +22,8 @@ pub struct Played {
 fn between(sheet: &[u8], from: usize, to: usize) -> &[u8]
     ensures { result.now ≡ take (to - from) (drop from sheet.now) }
 {
-    if to <= from {
-        return &sheet[..0];
-    }
-    if sheet.len() <= from {
-        return &sheet[..0];
-    }
-    if sheet.len() < to {
-        return &sheet[from..];
-    }
-    &sheet[from..to]
+    let end = to.min(sheet.len());
+    &sheet[from.min(end)..end]
 }
 
 // The line of a begin.
