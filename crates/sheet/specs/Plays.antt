@@ -1,5 +1,5 @@
 -- The fields of a line as the code puts them, and what playing an event gives once its line is put.
-use Rattle.std.specs.Prelude.{◌≡◌, List, [], ◌∷◌, ℕ, length}
+use Rattle.std.specs.Prelude.{◌≡◌, List, [], ◌∷◌, ℕ, ◌≤◌, length}
 use Prim.Native.Char.{code}
 use Rattle.conditions.specs.declared.text.Written.TheVariants.{To}
 use Rattle.conditions.specs.Text.{decimal, joined}
@@ -8,6 +8,7 @@ use Rattle.book.specs.declared.Answer.{Answer}
 use Rattle.book.specs.Answers.{answer_number}
 use Rattle.sheet.specs.declared.lines.Line.{Line}
 use Rattle.sheet.specs.declared.playing.Played.{Played}
+use Rattle.sheet.specs.Lines.{longest_line}
 use Rattle.sheet.specs.Play.{EventResult, result_line}
 
 -- a field, after its space
@@ -28,3 +29,13 @@ pub record Puts (before after : Line) (text : List ℕ) : Type 0 where
   pub put : Put before.buf.now after.buf.now before.end after.end text
   pub lent : after.buf.ghost_name ≡ before.buf.ghost_name
   pub long : length after.buf.now ≡ length before.buf.now
+
+-- nothing of the line is written yet, and its buffer has room for any
+pub record Blank (line : Line) : Type 0 where
+  pub start : line.end ≡ 0
+  pub room : longest_line ≤ length line.buf.now
+
+-- the line of an event's result is put into the buffer that it was lent, and r is what playing the event gave
+pub record PlaysLine (x : EventResult) (position : ℕ) (before : Line) (r : Played) (after : Line) : Type 0 where
+  pub plays : Plays x position before.buf.now r after.buf.now
+  pub lent : after.buf.ghost_name ≡ before.buf.ghost_name

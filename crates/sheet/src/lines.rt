@@ -1,9 +1,8 @@
 // Lines, written into a lent buffer that has room for any of them.
 ghost use Rattle.std.specs.Prelude.{◌≡◌, [], ◌∷◌, ◌+◌, ◌≤◌, length};
 ghost use Rattle.conditions.specs.Text.{decimal};
-ghost use Rattle.sheet.specs.Plays.{Puts};
 ghost use Rattle.sheet.specs.Lines.{event_line, refusal_line, line_answer, line_written};
-ghost use Rattle.sheet.specs.Plays.{field, head};
+ghost use Rattle.sheet.specs.Plays.{field, head, Puts};
 
 use book::Answer;
 use conditions::{Written, write_decimal};
@@ -72,6 +71,7 @@ impl Line<'_> {
         self.decimal(position);
         self.field(u64::from(answer.number()));
     }
+
     // Puts the line of an event that prints nothing after its answer number.
     pub(crate) fn plain(&mut self, position: u64, answer: Answer)
         requires { self.old.end + 42 ≤ length self.old.buf.now }

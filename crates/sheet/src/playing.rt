@@ -1,9 +1,8 @@
 // Playing an event: the book's call for it, and its line, written into a lent buffer.
-ghost use Rattle.std.specs.Prelude.{◌≡◌, ◌-◌, ◌≤◌, length, take, drop};
+ghost use Rattle.std.specs.Prelude.{◌≡◌, ◌-◌, take, drop};
 ghost use Rattle.conditions.specs.Places.{places};
-ghost use Rattle.sheet.specs.Lines.{longest_line};
 ghost use Rattle.sheet.specs.Play.{of_begun, of_done, of_show, event_result, played, played_buffer};
-ghost use Rattle.sheet.specs.Plays.{Plays};
+ghost use Rattle.sheet.specs.Plays.{Blank, PlaysLine};
 
 use crate::events::Event;
 use crate::lines::{LENT, LONGEST_LINE, Line};
@@ -28,10 +27,8 @@ fn between(sheet: &[u8], from: usize, to: usize) -> &[u8]
 
 // The line of a begin.
 fn begun(x: Begun, position: u64, line: &mut Line) -> Played
-    requires start { line.old.end ≡ 0 }
-    requires room { longest_line ≤ length line.old.buf.now }
-    ensures plays { Plays (of_begun x) position line.old.buf.now result line.new.buf.now }
-    ensures lent { line.new.buf.ghost_name ≡ line.old.buf.ghost_name }
+    requires { Blank line.old }
+    ensures { PlaysLine (of_begun x) position line.old result line.new }
 {
     let answer = x.answer;
     line.head(position, answer);
@@ -48,10 +45,8 @@ fn begun(x: Begun, position: u64, line: &mut Line) -> Played
 
 // The line of an event that prints nothing after its answer number.
 fn done(x: Done, position: u64, line: &mut Line) -> Played
-    requires start { line.old.end ≡ 0 }
-    requires room { longest_line ≤ length line.old.buf.now }
-    ensures plays { Plays (of_done x) position line.old.buf.now result line.new.buf.now }
-    ensures lent { line.new.buf.ghost_name ≡ line.old.buf.ghost_name }
+    requires { Blank line.old }
+    ensures { PlaysLine (of_done x) position line.old result line.new }
 {
     line.plain(position, x.answer);
     Played {
@@ -63,10 +58,8 @@ fn done(x: Done, position: u64, line: &mut Line) -> Played
 // Show, and its line: what stands before the line that show writes is put first, as if show were
 // accepted. A refused show leaves its bytes as they were, and its own line is longer than that.
 fn shown(book: Book, item: u8, position: u64, line: &mut Line) -> Played
-    requires start { line.old.end ≡ 0 }
-    requires room { longest_line ≤ length line.old.buf.now }
-    ensures plays { Plays (of_show places book item) position line.old.buf.now result line.new.buf.now }
-    ensures lent { line.new.buf.ghost_name ≡ line.old.buf.ghost_name }
+    requires { Blank line.old }
+    ensures { PlaysLine (of_show places book item) position line.old result line.new }
 {
     line.head(position, Answer::Accepted);
     line.byte(b' ');
@@ -88,10 +81,8 @@ fn shown(book: Book, item: u8, position: u64, line: &mut Line) -> Played
 
 // An event of the sheet, at its position, on the book.
 fn play_line(book: Book, sheet: &[u8], event: Event, position: u64, line: &mut Line) -> Played
-    requires start { line.old.end ≡ 0 }
-    requires room { longest_line ≤ length line.old.buf.now }
-    ensures plays { Plays (event_result places book sheet.now event) position line.old.buf.now result line.new.buf.now }
-    ensures lent { line.new.buf.ghost_name ≡ line.old.buf.ghost_name }
+    requires { Blank line.old }
+    ensures { PlaysLine (event_result places book sheet.now event) position line.old result line.new }
 {
     match event {
         Event::Begin { from, to } => {

@@ -2,30 +2,30 @@
 use Rattle.sheet.specs.Play.{event_result}
 use Rattle.sheet.proofs.playing.play_line.Goals as goal
 
-pub returns-in-Begin-clause-plays : goal.returns-in-Begin-clause-plays
+pub returns-in-Begin : goal.returns-in-Begin
 unfolding event_result
-returns-in-Begin-clause-plays c = rw (c.in-Begin.is, ← c.between-steps.ensures, ← c.begin.ensures) c.begun.ensures.plays
+returns-in-Begin c = rw (c.in-Begin.is, ← c.between-steps.ensures, ← c.begin.ensures) c.begun.ensures
 
-pub returns-in-Ready-clause-plays : goal.returns-in-Ready-clause-plays
+pub returns-in-Ready : goal.returns-in-Ready
 unfolding event_result
-returns-in-Ready-clause-plays c = rw (c.in-Ready.is, ← c.ready.ensures) c.done.ensures.plays
+returns-in-Ready c = rw (c.in-Ready.is, ← c.ready.ensures) c.done.ensures
 
-pub returns-in-GiveUp-clause-plays : goal.returns-in-GiveUp-clause-plays
+pub returns-in-GiveUp : goal.returns-in-GiveUp
 unfolding event_result
-returns-in-GiveUp-clause-plays c = rw (c.in-GiveUp.is, ← c.give_up.ensures) c.done-in-GiveUp.ensures.plays
+returns-in-GiveUp c = rw (c.in-GiveUp.is, ← c.give_up.ensures) c.done-in-GiveUp.ensures
 
-pub returns-in-Complete-clause-plays : goal.returns-in-Complete-clause-plays
+pub returns-in-Complete : goal.returns-in-Complete
 unfolding event_result
-returns-in-Complete-clause-plays c = rw (c.in-Complete.is, ← c.complete.ensures) c.done-in-Complete.ensures.plays
+returns-in-Complete c = rw (c.in-Complete.is, ← c.complete.ensures) c.done-in-Complete.ensures
 
-pub returns-in-Abort-clause-plays : goal.returns-in-Abort-clause-plays
+pub returns-in-Abort : goal.returns-in-Abort
 unfolding event_result
-returns-in-Abort-clause-plays c = rw (c.in-Abort.is, ← c.abort.ensures) c.done-in-Abort.ensures.plays
+returns-in-Abort c = rw (c.in-Abort.is, ← c.abort.ensures) c.done-in-Abort.ensures
 
-pub returns-in-Hear-clause-plays : goal.returns-in-Hear-clause-plays
+pub returns-in-Hear : goal.returns-in-Hear
 unfolding event_result
-returns-in-Hear-clause-plays c = rw (c.in-Hear.is, ← c.hear.ensures) c.done-in-Hear.ensures.plays
+returns-in-Hear c = rw (c.in-Hear.is, ← c.hear.ensures) c.done-in-Hear.ensures
 
-pub returns-in-Show-clause-plays : goal.returns-in-Show-clause-plays
+pub returns-in-Show : goal.returns-in-Show
 unfolding event_result
-returns-in-Show-clause-plays c = rw c.in-Show.is c.shown.ensures.plays
+returns-in-Show c = rw c.in-Show.is c.shown.ensures
