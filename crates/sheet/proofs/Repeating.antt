@@ -19,10 +19,6 @@ module _ {A : Type 0} (reader : A → ℕ → List ℕ → Read A) (n i : ℕ) (
 
 -- one more each time, where what was read stands in the first rows
 module _ {A : Type 0} (reader : ℕ → List ℕ → Read A) (n i : ℕ) (rows : List A) (at : ℕ) (l : List ℕ) where
-  pub rows_wrong : i < n → {place : ℕ} → reader at l ≡ wrong place → repeat (n - i) (one_more reader) (take i rows) at l ≡ wrong place
-  unfolding one_more
-  rows_wrong h e = rw (repeat_more (one_more reader) n i (take i rows) at l h, e)
-
   pub rows_more : i < n → i < length rows → {x : A} {next : ℕ} {rest : List ℕ} → reader at l ≡ right x next rest
       → repeat (n - i) (one_more reader) (take i rows) at l ≡ repeat (n - (i + 1)) (one_more reader) (take (i + 1) (set rows i x)) next rest
   unfolding one_more

@@ -36,7 +36,7 @@ impl Reader<'_> {
     {
         let at = self.at;
         let value = usize::from(self.byte()?);
-        if value < low || high < value {
+        if !(low..=high).contains(&value) {
             return Err(Wrong(at));
         }
         Ok(value)

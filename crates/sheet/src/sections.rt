@@ -6,7 +6,7 @@ ghost use Rattle.sheet.specs.declared.events.Event.{Event};
 ghost use Rattle.sheet.specs.Readers.{wrong, right, repeat, one_more};
 ghost use Rattle.sheet.specs.Events.{event};
 ghost use Rattle.sheet.specs.Sections.{code, districts, item, items, events, sheet as whole};
-ghost use Rattle.sheet.specs.Told.{Reads, ReadsAs};
+ghost use Rattle.sheet.specs.Told.{Reads, ReadsAs, events_of, sheet_of};
 
 use crate::readers::{Reader, Wrong};
 use book::{DISTRICTS, ITEMS, Opening, Openings};
@@ -110,7 +110,7 @@ impl Reader<'_> {
     // The events.
     #[tactic(auto, unfolding(crate::specs::Sections::events))]
     fn events(&mut self) -> Result<EventsAt, Wrong>
-        ensures { (es : List Event) × (ReadsAs (λ x. record { count = x.count; first = x.first; each = es }) events self.old self.new result) }
+        ensures { (es : List Event) × (ReadsAs (λ x. events_of x es) events self.old self.new result) }
     {
         let count = usize::from(self.word()?);
         let first = self.at;
@@ -122,7 +122,7 @@ impl Reader<'_> {
 // The whole sheet: its sections, and no byte left over.
 #[tactic(auto, using(crate::proofs::Reading::end_past, crate::proofs::Reading::end_left), unfolding(crate::specs::Sections::sheet))]
 pub(crate) fn whole(sheet: &[u8]) -> Result<Sheet, Wrong>
-    ensures ok { IfOk result (λ x. (es : List Event) × (at : ℕ) × (rest : List ℕ) × (whole sheet.now ≡ right (record { districts = x.districts; items = openings_of x.items; events = record { count = x.events.count; first = x.events.first; each = es } }) at rest)) }
+    ensures ok { IfOk result (λ x. (es : List Event) × (at : ℕ) × (rest : List ℕ) × (whole sheet.now ≡ right (sheet_of x es) at rest)) }
     ensures err { IfErr result (λ e. whole sheet.now ≡ wrong e.0) }
     ensures count_le_most_items { IfOk result (λ x. x.items.count ≤ most_items) }
 {
