@@ -2,11 +2,11 @@
 use mathlib.Core.Path.{◌≡◌, refl, sym, ap, ◌∙◌}
 use mathlib.Core.Bool.{true, false}
 use mathlib.Core.List.{List, [], ◌∷◌, ◌++◌}
-use Prim.Native.Nat.{ℕ, ◌≤◌, ◌<◌}
+use Prim.Native.Nat.{ℕ, ◌≤◌}
 use native.Mathlib.Omega.{arith}
 use lib.ListN.{length, replicate}
-use borrow.Author.Tests.{le-leb, lt-leb, eq-eqb, ne_eqb}
-use Rattle.conditions.specs.declared.text.Written.TheVariants.{To, NoRoom}
+use borrow.Author.Tests.{le-leb, eq-eqb, ne_eqb}
+use Rattle.conditions.specs.declared.text.Written.TheVariants.{To}
 use Rattle.conditions.specs.Text.{bytes}
 use Rattle.conditions.specs.Written.{Put}
 use Rattle.book.specs.declared.Answer.{Answer}
@@ -67,11 +67,6 @@ module _ (w : ℕ) (b : Book) (i position : ℕ) where
 -- ---- the call
 
 module _ (w : ℕ) (b : Book) (s : List ℕ) (e : Event) (position : ℕ) (l : List ℕ) where
-  pub too_short : length l < longest_line
-      → (record { written = NoRoom; book = b } ≡ played w b s e position l) × (l ≡ played_buffer w b s e position l)
-  unfolding played played_buffer line_answer line_written
-  too_short h = let short = lt-leb longest_line (length l) h in (rw short, rw short)
-
   pub was-played : longest_line ≤ length l → {x : EventResult} {r : Played} {m : List ℕ} → Plays x position l r m → x ≡ event_result w b s e
       → (r ≡ played w b s e position l) × (m ≡ played_buffer w b s e position l)
   unfolding played played_buffer line_answer line_written

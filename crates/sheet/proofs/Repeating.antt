@@ -6,7 +6,7 @@ use native.Mathlib.Omega.{arith}
 use lib.ListN.{length, take, set}
 use lib.Seq.{take-append_seam}
 use Rattle.std.proofs.lemmas.List.{take_all, take_more_set}
-use Rattle.sheet.specs.Readers.{Read, wrong, right, and_then, repeat, one_more}
+use Rattle.sheet.specs.Readers.{Read, right, and_then, repeat, one_more}
 
 module _ {A : Type 0} (reader : A → ℕ → List ℕ → Read A) (n i : ℕ) (x : A) (at : ℕ) (l : List ℕ) where
   pub repeat_more : i < n → repeat (n - i) reader x at l ≡ and_then (reader x at l) (repeat (n - (i + 1)) reader)

@@ -84,6 +84,7 @@ impl Line<'_> {
 }
 
 // Writes the line of a refused sheet at the buffer's start.
+#[tactic(auto, unfolding(crate::specs::Lines::line_answer, crate::specs::Lines::line_written))]
 pub fn write_refusal(answer: Answer, place: u64, buf: &mut [u8]) -> Written
     ensures value { result ≡ line_answer buf.old (refusal_line answer place) }
     ensures buf_after { buf.new ≡ line_written buf.old (refusal_line answer place) }

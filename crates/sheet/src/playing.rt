@@ -11,6 +11,7 @@ use conditions::Written;
 
 // What playing an event gives: where its line ends, and the book that the next event takes. Where the
 // buffer is too short, nothing was played.
+// kept: no Result, since document 01 gives the next call the book of the one before it, refused or not (`played`).
 #[derive(Clone, Copy)]
 pub struct Played {
     pub written: Written,
@@ -99,6 +100,7 @@ fn play_line(book: Book, sheet: &[u8], event: Event, position: u64, line: &mut L
 }
 
 // The call. Where the buffer has no room for any line, nothing is played.
+#[tactic(auto, unfolding(crate::specs::Play::played, crate::specs::Play::played_buffer, crate::specs::Lines::line_answer, crate::specs::Lines::line_written))]
 pub fn play(book: Book, sheet: &[u8], event: Event, position: u64, buf: &mut [u8]) -> Played
     ensures value { result ≡ played places book sheet.now event position buf.old }
     ensures buf_after { buf.new ≡ played_buffer places book sheet.now event position buf.old }

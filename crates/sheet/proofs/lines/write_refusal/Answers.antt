@@ -1,13 +1,8 @@
 -- The word, the two numbers and the line feed.
 use mathlib.Core.Path.{◌∙◌}
 use native.Mathlib.Omega.{arith}
-use Rattle.sheet.proofs.Writing.{refusal-line, line-short, line-given, puts_then}
+use Rattle.sheet.proofs.Writing.{refusal-line, line-given, puts_then}
 use Rattle.sheet.proofs.lines.write_refusal.Goals as goal
-
-pub returns-then-buf-lt-LONGEST_LINE : goal.returns-then-buf-lt-LONGEST_LINE
-returns-then-buf-lt-LONGEST_LINE c =
-    let both = line-short _ _ c.if-buf-lt-LONGEST_LINE.true in
-    record { value = both.0; buf_after = both.1 }
 
 pub returns : goal.returns
 returns c =
