@@ -99,10 +99,13 @@ impl Book {
         ensures { result ≡ complete places self n.0 }
     {
         match self.may_complete(n) {
-            Ok(q) => Done {
-                answer: Ok(()),
-                book: decided(self, q, COMPLETED),
-            },
+            Ok(q) => {
+                let after = decided(self, q, COMPLETED);
+                Done {
+                    answer: Ok(()),
+                    book: after,
+                }
+            }
             Err(refusal) => Done {
                 answer: Err(refusal),
                 book: self,
@@ -115,10 +118,13 @@ impl Book {
         ensures { result ≡ abort places self n.0 }
     {
         match self.may_abort(n) {
-            Ok(q) => Done {
-                answer: Ok(()),
-                book: decided(self, q, ABORTED),
-            },
+            Ok(q) => {
+                let after = decided(self, q, ABORTED);
+                Done {
+                    answer: Ok(()),
+                    book: after,
+                }
+            }
             Err(refusal) => Done {
                 answer: Err(refusal),
                 book: self,

@@ -55,10 +55,13 @@ impl Book {
         ensures { result ≡ give_up places self n.0 d }
     {
         match self.may_give_up(n, d) {
-            Ok(at) => Done {
-                answer: Ok(()),
-                book: forget(gave_up(self, at)),
-            },
+            Ok(at) => {
+                let after = gave_up(self, at);
+                Done {
+                    answer: Ok(()),
+                    book: forget(after),
+                }
+            }
             Err(refusal) => Done {
                 answer: Err(refusal),
                 book: self,

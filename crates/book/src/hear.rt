@@ -53,10 +53,13 @@ impl Book {
         ensures { result ≡ hear places self n.0 d }
     {
         match self.may_hear(n, d) {
-            Ok(at) => Done {
-                answer: Ok(()),
-                book: forget(heard(self, at)),
-            },
+            Ok(at) => {
+                let after = heard(self, at);
+                Done {
+                    answer: Ok(()),
+                    book: forget(after),
+                }
+            }
             Err(refusal) => Done {
                 answer: Err(refusal),
                 book: self,
