@@ -1,6 +1,6 @@
 -- A begun book, as the code has it.
-use mathlib.Core.Path.{◌≡◌, refl, sym, ap, ap₂, ◌∙◌}
-use mathlib.Core.Bool.{Bool, true, false, not, cond, true≢false}
+use mathlib.Core.Path.{◌≡◌, refl, ap, ap₂, ◌∙◌}
+use mathlib.Core.Bool.{Bool, true, false, not, cond}
 use mathlib.Core.List.{List, [], ◌∷◌}
 use Prim.Native.Nat.{ℕ, zero, suc, ◌+◌, ◌≤◌, ◌<◌}
 use native.Mathlib.Omega.{arith}
@@ -54,10 +54,6 @@ begun-is w b xs {s = s} few en es er eq =
     let alike = rows_alike 0 (λ d x. cond (member s d) (begin_record (b.last.0 + 1)) x) (λ d x. cond (touches_district b xs d) (begin_record (suc b.last.0)) x) b.districts b.records
     (λ d h x. ap₂ (λ (t : Bool) (n : ℕ). cond t (begin_record n) x) (ap (λ (u : ℕ). member u d) es ∙ member-set_of most_districts (touches_district b xs) d (omega arith)) one) in
     λ k. record { last = record { 0 = one k }; districts = (en k).districts; records = (er ∙ alike) k; count = (en k).count; items = (en k).items; «open» = set (en k).«open» (eq k) (record { number = record { 0 = one k }; touched = es k; ready = 0; gave = 0; decision = 0 }) }
-
--- where there are not too many values, all alternatives are worked out
-pub all-worked : (w : ℕ) (b : Book) (xs : List Step) (t : Worked) → (t.fits ≡ true → WorkedOut w b xs t) → (t.fits ≡ false → too_many w b xs ≡ true) → too_many w b xs ≡ false → WorkedOut w b xs t
-all-worked w b xs t fits over few = by_cases t.fits fits (λ e. absurd (true≢false (sym (over e) ∙ few)))
 
 -- ---- its answer, for a sound book and a good program whose items are in the table
 

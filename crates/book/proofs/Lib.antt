@@ -7,6 +7,7 @@ mod Running
 mod Testing
 mod Known
 mod Loops
+mod Lists
 mod Districts
 mod Doing
 mod Filling

@@ -1,20 +1,20 @@
 -- Openings in rows: what holding them tells, the turns of the loop over them, and the book that is made of them.
-use mathlib.Core.Path.{◌≡◌, sym, ap, ◌∙◌}
-use mathlib.Core.Bool.{Bool, true, false, not, ◌&&◌}
-use mathlib.Core.List.{List, ◌++◌, map}
-use Prim.Native.Nat.{ℕ, suc, ◌-◌, ◌≤◌, ◌<◌}
+use mathlib.Core.Path.{◌≡◌, refl, ap}
+use mathlib.Core.Bool.{Bool, true, false, ◌&&◌}
+use mathlib.Core.List.{List, [], ◌∷◌, ◌++◌, map}
+use Prim.Native.Nat.{ℕ, ◌-◌, ◌≤◌}
 use native.Mathlib.Omega.{arith}
 use denote.Shadow.{shadow}
-use lib.ListN.{length, get_or, drop, replicate, length-take}
+use lib.ListN.{length, replicate, length-take}
 use mir.Val.{Val}
-use borrow.Author.Tests.{not-false, not-true}
+use Rattle.std.specs.List.{list_all}
 use Rattle.conditions.specs.Places.{places}
-use Rattle.conditions.proofs.Laws.Lists.{drop-take}
 use Rattle.book.specs.declared.Book.{Book}
 use Rattle.book.specs.declared.Item.{Item}
+use Rattle.book.specs.declared.Opening.{Opening}
 use Rattle.book.specs.declared.maker.Openings.{Openings}
 use Rattle.book.specs.Book.{most_items, no_item, no_book}
-use Rattle.book.specs.Open.{no_opening, good_item, good_items, good_opening, opened_item, opened_book, opened}
+use Rattle.book.specs.Open.{good_item, good_items, good_opening, opened_item, opened_book, opened}
 use Rattle.book.specs.Openings.{openings_of, opened_rows}
 use Rattle.book.proofs.Laws.Openings.{rows-opened}
 use Rattle.book.specs.contracts.maker.Openings as TOpenings
@@ -31,18 +31,10 @@ pub openings-count : {t : Openings} → Held t → t.count ≤ most_items → le
 unfolding openings_of
 openings-count {t} h few = omega (arith, length-take t.count t.items, items-long h)
 
--- item i is not good, or the items after it decide
-module _ (districts : ℕ) (t : Openings) (i : ℕ) (h : i < length (openings_of t)) {r target : Bool}
-    (left : good_items districts (drop i (openings_of t)) ≡ target) (e : r ≡ good_item districts (get_or t.items i no_opening)) where
-  here : (r && good_items districts (drop (suc i) (openings_of t))) ≡ target
-  unfolding openings_of
-  here = ap (λ (b : Bool). b && good_items districts (drop (suc i) (openings_of t))) e ∙ rw (drop-take t.count t.items i no_opening h) at left
-
-  pub bad-found : not r ≡ true → false ≡ target
-  bad-found k = sym (ap (λ (b : Bool). b && good_items districts (drop (suc i) (openings_of t))) (not-true r k)) ∙ here
-
-  pub good-later : not r ≡ false → good_items districts (drop (suc i) (openings_of t)) ≡ target
-  good-later k = sym (ap (λ (b : Bool). b && good_items districts (drop (suc i) (openings_of t))) (not-false r k)) ∙ here
+-- the library's test of each
+pub each-good : (districts : ℕ) (xs : List Opening) → list_all (good_item districts) xs ≡ good_items districts xs
+each-good districts [] = refl
+each-good districts (x ∷ xs) = ap (λ (b : Bool). good_item districts x && b) (each-good districts xs)
 
 -- ---- the book, where they are not too many
 

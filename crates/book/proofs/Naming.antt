@@ -1,20 +1,20 @@
 -- Operands as the machine keeps them, and the items that steps name.
 use mathlib.Core.Path.{◌≡◌, refl, ap, ap₂}
-use mathlib.Core.Bool.{Bool, true, false, not, ◌||◌, true≢false}
+use mathlib.Core.Bool.{Bool, true, false, not, ◌||◌}
 use mathlib.Core.List.{List, [], ◌∷◌}
 use Prim.Native.Nat.{ℕ, zero, suc, ◌≤◌, ◌<◌}
 use native.Mathlib.Omega.{arith}
-use lib.Dec.{ltb, T}
-use lib.IntN.{ℤ, pos, negsuc, nat_abs}
+use lib.Dec.{ltb}
+use lib.IntN.{ℤ, pos, negsuc}
 use lib.ListN.{length, get_or}
-use lib.Signed.{lt_z, mag, non_neg}
-use mir.Facts.{to_z-of_z, Fits-nat_abs}
-use mir.Syntax.{w16, w64}
-use mir.Val.{Fits, SFits, of_z, to_z}
+use lib.Signed.{mag}
+use mir.Facts.{to_z-of_z}
+use mir.Syntax.{w16}
+use mir.Val.{of_z, to_z}
 use borrow.Author.Tests.{lt-ltb, ltb-true, not-false}
 use Rattle.conditions.proofs.Laws.Below.{or_left, or_right, by_cases}
 use Rattle.book.specs.declared.Step.{Step}
-use Rattle.book.specs.Programs.{is_copy, numbered, some_step}
+use Rattle.book.specs.Programs.{is_copy, some_step}
 use Rattle.book.specs.Begin.{in_table, outside}
 use Rattle.book.specs.States.{no_step}
 use Rattle.book.proofs.Laws.Touched.{item-below}
@@ -24,28 +24,6 @@ use Rattle.book.proofs.Laws.Touched.{item-below}
 -- a number of 16 bits is what its bits say
 pub back : (z : ℤ) → mag z < 32768 → to_z w16 (of_z w16 z) ≡ z
 back z h = to_z-of_z {w = w16} (record { sfits = h })
-
--- one below zero numbers no item
-pub numbers-none : (z : ℤ) → lt_z z (pos 0) ≡ true → 0 ≡ numbered z
-numbers-none (pos n) e = absurd (omega (arith, ltb-true n 0 e))
-numbers-none (negsuc n) e = refl
-
-pub outside-table : (count : ℕ) (z : ℤ) → lt_z z (pos 0) ≡ true → false ≡ in_table count z
-outside-table count (pos n) e = absurd (omega (arith, ltb-true n 0 e))
-outside-table count (negsuc n) e = refl
-
--- another numbers one
-pub numbers-one : (z : ℤ) → lt_z z (pos 0) ≡ false → nat_abs z ≡ numbered z
-numbers-one (pos n) e = refl
-numbers-one (negsuc n) e = absurd (true≢false e)
-
-pub numbers-in : (count : ℕ) (z : ℤ) → lt_z z (pos 0) ≡ false → ltb (numbered z) count ≡ in_table count z
-numbers-in count (pos n) e = refl
-numbers-in count (negsuc n) e = absurd (true≢false e)
-
-pub not-below-zero : (z : ℤ) → SFits w16 z → lt_z z (pos 0) ≡ false → T (non_neg z) × Fits w64 (nat_abs z)
-not-below-zero (pos n) f e = (tt, Fits-nat_abs tt f)
-not-below-zero (negsuc n) f e = absurd (true≢false e)
 
 -- ---- items that a step names
 

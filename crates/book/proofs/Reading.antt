@@ -1,37 +1,31 @@
--- Programs in rows: what holding one tells of it, how bytes are read into one, and its steps in use.
-use mathlib.Core.Path.{◌≡◌, sym, ap, ap₂, ◌∙◌}
-use mathlib.Core.Bool.{false, not, ◌||◌}
-use mathlib.Core.List.{List, ◌∷◌, ◌++◌, map-id}
-use Prim.Native.Nat.{ℕ, suc, ◌+◌, ◌-◌, ◌*◌, ◌%◌, ◌≤◌, ◌<◌, min}
+-- Programs in rows: the steps in use, how bytes are read into a program, and a test of each step.
+use mathlib.Core.Path.{◌≡◌, refl, sym, ap, ap₂, ◌∙◌}
+use mathlib.Core.Bool.{Bool, false, not, ◌||◌}
+use mathlib.Core.List.{List, [], ◌∷◌, ◌++◌, map-id}
+use Prim.Native.Nat.{ℕ, ◌+◌, ◌-◌, ◌*◌, ◌%◌, ◌≤◌, ◌<◌, min}
 use native.Mathlib.Nat.{add_comm}
-use denote.Shadow.{shadow}
 use lib.Dec.{eqb}
 use lib.IntN.{ℤ}
-use lib.ListN.{length, get_or, take, drop, replicate, length-take}
+use lib.ListN.{length, get_or, take, replicate}
 use lib.Seq.{take-length, take-append_seam}
-use mir.Val.{Val}
+use Rattle.std.specs.List.{list_any}
+use Rattle.std.proofs.lemmas.List.{take_min}
 use borrow.Author.Tests.{ltb-false}
 use Rattle.conditions.proofs.Laws.Below.{or_left, or_right}
-use Rattle.conditions.proofs.Laws.Lists.{take_row, drop-take}
 use Rattle.polyvalues.specs.Values.{of_bytes}
 use Rattle.book.specs.declared.Step.{Step}
-use Rattle.book.specs.declared.program.Program.{Program}
 use Rattle.book.specs.Book.{most_items}
 use Rattle.book.specs.Programs.{steps, some_step}
 use Rattle.book.specs.Begin.{most_steps, bad_length, bad_program, outside}
 use Rattle.book.specs.States.{no_step, steps_of, program_of}
 use Rattle.book.proofs.Laws.Steps.{get_or-steps}
 use Rattle.book.proofs.Filling.{filled_upto}
-use Rattle.book.specs.contracts.program.Program as TProgram
 use Rattle.book.proofs.Naming.{some-none}
 
--- p is a value that code holds
-pub record Held (p : Program) : Type 0 where
-  pub values : List Val
-  pub own : shadow ((TProgram.the_field).row.own_val ((TProgram.the_field).into p) values)
+-- ---- the steps in use
 
-pub steps-long : {p : Program} → Held p → length p.steps ≡ most_steps
-steps-long {p} h = h.own.1.1.1.0.1.0.1
+pub steps-taken : (n m : ℕ) (xs : List Step) → length xs ≡ m → take (min n m) xs ≡ take n xs
+steps-taken n m xs e = rw (← e) (take_min n xs)
 
 -- ---- a program as bytes
 
@@ -68,20 +62,13 @@ pub steps-read : (xs : List Step) → steps_of (program_of xs) ≡ xs
 unfolding steps_of program_of
 steps-read xs = take-append_seam xs (replicate (most_steps - length xs) no_step)
 
--- ---- the steps in use
-
-pub steps-count : (p : Program) → length (steps_of p) ≡ min p.count (length p.steps)
-unfolding steps_of
-steps-count p = length-take p.count p.steps
-
-step_row : (p : Program) (i : ℕ) → i < length (steps_of p) → get_or (steps_of p) i no_step ≡ get_or p.steps i no_step
-unfolding steps_of
-step_row p i h = take_row p.count p.steps i no_step h
+-- ---- a test of each step
 
 -- every step in use is inside the table
-pub inside-row : (p : Program) (i : ℕ) → some_step (outside most_items) (steps_of p) ≡ false → i < length (steps_of p) → outside most_items (get_or p.steps i no_step) ≡ false
-inside-row p i e h = rw (sym (step_row p i h)) (some-none (outside most_items) (steps_of p) i e h)
+pub inside-row : (xs : List Step) (i : ℕ) → some_step (outside most_items) xs ≡ false → i < length xs → outside most_items (get_or xs i no_step) ≡ false
+inside-row xs i e h = some-none (outside most_items) xs i e h
 
-pub steps-more : (p : Program) (i : ℕ) → i < length (steps_of p) → drop i (steps_of p) ≡ get_or p.steps i no_step ∷ drop (suc i) (steps_of p)
-unfolding steps_of
-steps-more p i h = drop-take p.count p.steps i no_step h
+-- the library's test of each
+pub some-step : (f : Step → Bool) (xs : List Step) → list_any f xs ≡ some_step f xs
+some-step f [] = refl
+some-step f (x ∷ xs) = ap (λ (b : Bool). f x || b) (some-step f xs)

@@ -7,10 +7,9 @@ use native.Mathlib.Omega.{arith}
 use lib.ListN.{length, get_or-map}
 use borrow.Author.Tests.{lt-ltb, le-ltb}
 use Rattle.conditions.specs.declared.place.TransactionNumber.{TransactionNumber}
-use Rattle.conditions.specs.declared.text.Written.TheVariants.{To, NoRoom}
 use Rattle.conditions.specs.Places.{places as width}
 use Rattle.conditions.specs.Text.{number_at}
-use Rattle.conditions.specs.Written.{room, answer, written}
+use Rattle.conditions.specs.Written.{no_room, room, answer, written}
 use Rattle.conditions.proofs.Laws.Below.{by_cases}
 use Rattle.polyvalues.specs.declared.polyvalue.Polyvalue.{Polyvalue}
 use Rattle.polyvalues.specs.Text.{line_text}
@@ -35,18 +34,18 @@ line-is p places e =
     ap (λ (n : ℕ → ℕ). line_text width n (in_use p)) (ap number_at e ∙ tags)
 
 -- it was written, or there was too little room
-pub was-written : (l t : List ℕ) {end : ℕ} → To end ≡ answer l 0 t → Ok end ≡ line_shown l t
+pub was-written : (l t : List ℕ) {end : ℕ} → Ok end ≡ answer l 0 t → Ok end ≡ line_shown l t
 unfolding answer
 was-written l t {end} e =
     by_cases (room l 0 t)
-    (λ k. let to : To end ≡ To (0 + length t) = rw k at e in let same : end ≡ 0 + length t = cc in let plain : end ≡ length t = omega arith in rw k (ap Ok plain))
-    (λ k. let none : To end ≡ NoRoom = rw k at e in let z : ◌≡◌ {A = ℕ} 0 1 = cc in absurd (omega arith))
+    (λ k. let to : Ok end ≡ Ok (0 + length t) = rw k at e in let same : end ≡ 0 + length t = cc in let plain : end ≡ length t = omega arith in rw k (ap Ok plain))
+    (λ k. let none : Ok end ≡ Err no_room = rw k at e in let z : ◌≡◌ {A = ℕ} 0 1 = cc in absurd (omega arith))
 
-pub was-short : (l t : List ℕ) → NoRoom ≡ answer l 0 t → Err ShortBuffer ≡ line_shown l t
+pub was-short : (l t : List ℕ) → Err no_room ≡ answer l 0 t → Err ShortBuffer ≡ line_shown l t
 unfolding answer
 was-short l t e =
     by_cases (room l 0 t)
-    (λ k. let some : NoRoom ≡ To _ = rw k at e in let z : ◌≡◌ {A = ℕ} 0 1 = cc in absurd (omega arith))
+    (λ k. let some : Err no_room ≡ Ok _ = rw k at e in let z : ◌≡◌ {A = ℕ} 0 1 = cc in absurd (omega arith))
     (λ k. rw k)
 
 -- ---- the answers

@@ -2,12 +2,14 @@
 use mathlib.Core.Path.{◌≡◌, refl, sym, ap, ap₂, ◌∙◌}
 use mathlib.Core.Bool.{Bool, true, false, not, ◌&&◌, cond, and-false}
 use mathlib.Core.List.{List, [], ◌∷◌}
-use Prim.Native.Nat.{ℕ, ◌≤◌, ◌<◌}
+use Prim.Native.Nat.{ℕ, ◌+◌, ◌-◌, ◌≤◌, ◌<◌}
 use native.Mathlib.Omega.{arith}
 use borrow.Author.Tests.{le-leb, lt-ltb, le-ltb, leb-true, not-false}
 use lib.Dec.{eqb, leb, ltb}
 use lib.IntN.{pos}
-use lib.ListN.{length, get_or, replicate}
+use lib.ListN.{length, get_or, drop, replicate}
+use Rattle.std.specs.List.{list_all}
+use Rattle.book.proofs.Lists.{all_past}
 use lib.Seq.{take_all}
 use Rattle.polyvalues.specs.declared.polyvalue.Pair.{Pair}
 use Rattle.polyvalues.specs.declared.polyvalue.Polyvalue.{Polyvalue}
@@ -18,14 +20,14 @@ use Rattle.polyvalues.specs.Operations.{same_rows, same, together}
 use Rattle.polyvalues.proofs.Laws.Packed.{sound-well_formed}
 use Rattle.polyvalues.proofs.Laws.Paired.{rows_long}
 use Rattle.polyvalues.proofs.Known.{Held, all-rows}
-use Rattle.conditions.specs.Below.{first}
+use Rattle.conditions.specs.Below.{all, first}
 use Rattle.conditions.specs.Places.{places}
-use Rattle.conditions.proofs.Laws.Below.{and_left, and_right, by_cases}
+use Rattle.conditions.proofs.Laws.Below.{and_left, and_right, by_cases, all_same, all-plus}
 use Rattle.book.specs.declared.Record.{Record}
 use Rattle.book.specs.declared.Item.{Item}
 use Rattle.book.specs.declared.Open.{Open}
 use Rattle.book.specs.declared.Book.{Book}
-use Rattle.book.specs.Book.{most_districts, most_items, good_counts, last_number, no_record, no_item, no_open, record_on, item_at, item_on, named, place_of, item_depends}
+use Rattle.book.specs.Book.{most_districts, most_items, good_counts, last_number, no_record, no_item, no_open, void_item, record_on, item_at, item_on, named, place_of, item_depends}
 use Rattle.book.specs.SoundTest.{implies, same_condition, same_polyvalue, same_item, sound_pending, sound_row, sound_item}
 use Rattle.book.proofs.Laws.Same.{same-paired, same-polyvalue}
 use Rattle.book.proofs.Laws.Room.{together-self}
@@ -122,6 +124,16 @@ item-row w b h = rw (lt-ltb _ _ h)
 pub item-past : (w : ℕ) (b : Book) {i : ℕ} → b.count ≤ i → sound_item w b i ≡ same_item (item_at b i) no_item
 unfolding sound_item
 item-past w b h = rw (le-ltb _ _ h)
+
+-- the rows past the count, once those below it are sound
+pub items-past : (w : ℕ) (b : Book) → length b.items ≡ most_items → b.count ≤ most_items → all b.count (sound_item w b) ≡ true
+    → list_all (λ x. same_item x no_item) (drop b.count b.items) ≡ all most_items (sound_item w b)
+items-past w b long few sure =
+    let left : most_items ≡ b.count + (most_items - b.count) = omega arith in
+    all_past (λ x. same_item x no_item) void_item b.count b.items
+    ∙ ap (λ (n : ℕ). all (n - b.count) (λ i. same_item (item_at b (b.count + i)) no_item)) long
+    ∙ all_same (most_items - b.count) _ _ (λ i h. sym (item-past w b (omega arith)))
+    ∙ sym (ap (λ (n : ℕ). all n (sound_item w b)) left ∙ all-plus b.count (most_items - b.count) (sound_item w b) ∙ rw sure)
 
 -- the counts are sound: there are not too many districts and items
 pub few-rows : (d n : ℕ) {r : Bool} → r ≡ good_counts d n → not r ≡ false → (d ≤ most_districts) × (n ≤ most_items)

@@ -1,15 +1,30 @@
--- A program and a state as the code keeps them, in rows. Any count and any rows may be handed in.
-use Rattle.std.specs.Prelude.{not, cond, List, [], ◌∷◌, ◌++◌, ℕ, zero, suc, ◌-◌, ℤ, pos, length, get_or, take, replicate}
+-- A step's kind, a program and a state as the code keeps them, in rows. Any kind, any count and any rows may be handed in.
+use Rattle.std.specs.Prelude.{◌≡◌, ◌&&◌, cond, List, [], ◌∷◌, ◌++◌, ℕ, zero, suc, ◌-◌, eqb, leb, ℤ, pos, length, get_or, take, replicate, Option, Some, None, Result, Ok, Err, MatchResult, false}
 use Rattle.polyvalues.specs.Values.{in_range}
 use Rattle.book.specs.declared.Step.{Step}
 use Rattle.book.specs.declared.program.Program.{Program}
 use Rattle.book.specs.declared.state.Value.{Value}
 use Rattle.book.specs.declared.state.State.{State}
-use Rattle.book.specs.declared.state.Stepped.{Stepped}
-use Rattle.book.specs.declared.program.Ran.{Ran}
+use Rattle.book.specs.declared.steps.Kind.{Kind}
+use Rattle.book.specs.declared.steps.Kind.TheVariants.{Need, Add, Set, Copy}
+use Rattle.book.specs.declared.steps.UnknownKind.{UnknownKind}
+use Rattle.book.specs.declared.program.Declined.{Declined}
 use Rattle.book.specs.Book.{most_items}
-use Rattle.book.specs.Programs.{takes, declines, after, declined, run}
+use Rattle.book.specs.Programs.{takes, declines, after, declined}
 use Rattle.book.specs.Begin.{most_steps}
+
+-- ---- a kind
+
+-- the number of a kind
+abbrev pub kind_number : Kind → ℕ
+kind_number Need = 1
+kind_number Add = 2
+kind_number Set = 3
+kind_number Copy = 4
+
+-- the kind that has the number, or that none has it
+abbrev pub KindOf : ℕ → Result Kind UnknownKind → Type 0
+KindOf n r = MatchResult r (λ k. kind_number k ≡ n) (λ e. (leb 1 n && leb n 4) ≡ false)
 
 -- ---- a program
 
@@ -46,14 +61,14 @@ state_rows s = record { values = values_from 0 most_items s }
 
 -- ---- a step, and a program
 
--- "Add: add the operand; decline if the sum leaves −9,999 to 9,999.": item i takes the sum z, or else the state is as it was
-unfoldable pub added : (ℕ → ℤ) → ℕ → ℤ → Stepped
-added s i z = record { declines = not (in_range z); state = state_rows (cond (in_range z) (takes s i z) s) }
+-- "Add: add the operand; decline if the sum leaves −9,999 to 9,999.": item i takes the sum z, if it may
+unfoldable pub added : (ℕ → ℤ) → ℕ → ℤ → Option State
+added s i z = cond (in_range z) (Some (state_rows (takes s i z))) None
 
--- a step declines, and then the state is as it was; or it does not, and this is the state after it
-unfoldable pub stepped : Step → (ℕ → ℤ) → Stepped
-stepped x s = record { declines = declines x s; state = state_rows (cond (declines x s) s (after x s)) }
+-- the state after a step, if the step does not decline
+unfoldable pub stepped : Step → (ℕ → ℤ) → Option State
+stepped x s = cond (declines x s) None (Some (state_rows (after x s)))
 
--- which step declines, and the state after the program
-unfoldable pub ran : List Step → (ℕ → ℤ) → Ran
-ran xs s = record { declined = declined xs s; state = state_rows (run xs s) }
+-- whether the program runs to its end, or which step declines
+unfoldable pub ran : List Step → (ℕ → ℤ) → Result Unit Declined
+ran xs s = cond (eqb (declined xs s) 0) (Ok tt) (Err (record { 0 = declined xs s }))

@@ -89,7 +89,9 @@ fn begin_at(b: Book, p: Program, q: usize, set: u8) -> Begun
     requires set_value { set ≡ set_of most_districts (touches_district b (steps_of p)) }
     ensures { result ≡ begins places (cond (too_many places b (steps_of p)) (Err Refusal.TooManyValues) (Ok tt)) b (steps_of p) }
 {
-    let w = worked_out(b, p);
+    let Some(w) = worked_out(b, p) else {
+        return refused(b, Refusal::TooManyValues);
+    };
     if too_many(b, p, w) {
         return refused(b, Refusal::TooManyValues);
     }

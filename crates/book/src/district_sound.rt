@@ -2,24 +2,20 @@
 ghost use Rattle.std.specs.Prelude.{◌≡◌, cond, ℕ, ◌<◌, ltb};
 ghost use Rattle.conditions.specs.Below.{all};
 ghost use Rattle.conditions.specs.Places.{places as place_count};
-ghost use Rattle.book.specs.declared.Book.{Book};
 ghost use Rattle.book.specs.Book.{most_districts};
-ghost use Rattle.book.specs.Tables.{TablesOf};
 ghost use Rattle.book.specs.SoundTest.{zero_record, sound_busy, sound_record, sound_district};
 
+use crate::records::{IDLE, RESTING, WAITING};
 use crate::sets::has;
-use crate::tables::{DISTRICTS, Tables, place_of};
-use crate::{Open, Record};
-use conditions::PLACES;
+use crate::tables::place_of;
+use crate::{Book, Open, Record};
+use conditions::{PLACES, TransactionNumber};
 
 // Whether a record holds zeros.
 fn zero_record(x: Record) -> bool
     ensures { result ≡ zero_record x }
 {
-    if x.phase != 0 {
-        return false;
-    }
-    x.transaction.0 == 0
+    x == RESTING
 }
 
 // Whether the open transaction touches the busy district: a waiting one is ready, a computing one in
@@ -31,55 +27,43 @@ fn sound_busy(d: usize, o: Open, is_waiting: bool) -> bool
         return false;
     }
     if is_waiting {
-        return has(o.ready, d);
+        has(o.ready, d)
+    } else {
+        !has(o.ready, d) && !has(o.gave, d)
     }
-    if has(o.ready, d) {
-        return false;
-    }
-    !has(o.gave, d)
 }
 
 // Whether the record of a district below the count is sound.
-fn sound_record(places: [Open; PLACES], d: usize, x: Record) -> bool
-    ensures { (b : Book) → b.«open» ≡ places → result ≡ sound_record place_count b d x }
+fn sound_record(b: &Book, d: usize, x: Record) -> bool
+    ensures { result ≡ sound_record place_count b.now d x }
 {
-    if 2 < x.phase {
+    if WAITING < x.phase {
         return false;
     }
-    if x.phase == 0 {
-        return x.transaction.0 == 0;
+    if x.phase == IDLE {
+        return x.transaction == TransactionNumber(0);
     }
-    let n = x.transaction;
-    let q = place_of(places, n);
-    if PLACES <= q {
-        return false;
-    }
-    let o = places[q];
-    sound_busy(d, o, x.phase == 2)
+    let q = place_of(b.open, x.transaction);
+    q < PLACES && sound_busy(d, b.open[q], x.phase == WAITING)
 }
 
 // Whether a row of the districts is sound.
-fn sound_district(places: [Open; PLACES], districts: usize, d: usize, x: Record) -> bool
-    ensures { (b : Book) → b.«open» ≡ places → result ≡ cond (ltb d districts) (sound_record place_count b d x) (zero_record x) }
+fn sound_district(b: &Book, d: usize, x: Record) -> bool
+    ensures { result ≡ cond (ltb d b.now.districts) (sound_record place_count b.now d x) (zero_record x) }
 {
-    if d < districts {
-        return sound_record(places, d, x);
+    if d < b.districts {
+        sound_record(b, d, x)
+    } else {
+        zero_record(x)
     }
-    zero_record(x)
 }
 
 // Whether each of them is.
-pub(crate) fn sound_districts(t: Tables) -> bool
-    ensures { (b : Book) → TablesOf place_count b t → result ≡ all most_districts (sound_district place_count b) }
+pub(crate) fn sound_districts(b: &Book) -> bool
+    ensures { result ≡ all most_districts (sound_district place_count b.now) }
 {
-    let places = t.open;
-    let mut d: usize = 0;
-    while d < DISTRICTS {
-        let x = t.records[d];
-        if !sound_district(places, t.districts, d, x) {
-            return false;
-        }
-        d += 1;
-    }
-    true
+    b.records
+        .iter()
+        .enumerate()
+        .all(|(d, x)| sound_district(b, d, *x))
 }

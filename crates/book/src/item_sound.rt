@@ -1,17 +1,17 @@
 // Whether an item of a book is sound: its polyvalues, and what it depends on.
 ghost use Rattle.std.specs.Prelude.{◌≡◌, not, ◌&&◌, leb};
+ghost use Rattle.std.specs.List.{list_all};
 ghost use Rattle.conditions.specs.Sets.{set_of};
 ghost use Rattle.conditions.specs.Places.{places as place_count};
 ghost use Rattle.polyvalues.specs.Polyvalues.{most_pairs, in_use, sound as sound_polyvalue};
 ghost use Rattle.polyvalues.specs.Operations.{together};
-ghost use Rattle.book.specs.declared.Book.{Book};
 ghost use Rattle.book.specs.Book.{no_item, place_of, item_depends};
 ghost use Rattle.book.specs.SoundTest.{same_polyvalue, same_item, sound_row};
 
 use crate::sets::has;
-use crate::tables::{DISTRICTS, district_on, place_of};
-use crate::{Item, Open, Record};
-use conditions::{PLACES, TransactionNumber};
+use crate::tables::{district_on, place_of};
+use crate::{Book, Item};
+use conditions::TransactionNumber;
 use polyvalues::{PAIRS, Polyvalue};
 
 // Whether two polyvalues are the same, rows past the count too.
@@ -29,16 +29,20 @@ fn same_polyvalue(q: Polyvalue, other: Polyvalue) -> bool
 }
 
 // Whether an item holds zeros.
-pub(crate) fn zero_row(x: Item) -> bool
+fn zero_row(x: Item) -> bool
     ensures { result ≡ same_item x no_item }
 {
     if x.district != 0 {
         return false;
     }
-    if !x.held.is_nothing() {
-        return false;
-    }
-    x.pending.is_nothing()
+    x.held.is_nothing() && x.pending.is_nothing()
+}
+
+// Whether each of these items does.
+pub(crate) fn zero_rows(rows: &[Item]) -> bool
+    ensures { result ≡ list_all (λ x. same_item x no_item) rows.now }
+{
+    rows.iter().all(|x| zero_row(*x))
 }
 
 // Whether an item of an idle district is sound: pending equals held, and so one look at held tells of
@@ -46,16 +50,13 @@ pub(crate) fn zero_row(x: Item) -> bool
 fn sound_idle(x: Item) -> bool
     ensures { result ≡ (sound_polyvalue place_count x.held && same_polyvalue x.pending x.held) }
 {
-    if !x.held.is_sound() {
-        return false;
-    }
-    same_polyvalue(x.pending, x.held)
+    x.held.is_sound() && same_polyvalue(x.pending, x.held)
 }
 
 // Whether an item of a district that is on the transaction number n is sound: that transaction's place
 // is none of those that it depends on, its places.
-fn sound_taken(places: [Open; PLACES], n: u16, x: Item, its: u8) -> bool
-    ensures { (b : Book) → b.«open» ≡ places → its ≡ set_of place_count (item_depends place_count x) → result ≡ (sound_polyvalue place_count x.held && sound_polyvalue place_count x.pending && not (item_depends place_count x (place_of place_count b n)) && leb (together (in_use x.held) (in_use x.pending)) most_pairs) }
+fn sound_taken(b: &Book, n: u16, x: Item, its: u8) -> bool
+    ensures { its ≡ set_of place_count (item_depends place_count x) → result ≡ (sound_polyvalue place_count x.held && sound_polyvalue place_count x.pending && not (item_depends place_count x (place_of place_count b.now n)) && leb (together (in_use x.held) (in_use x.pending)) most_pairs) }
 {
     if !x.held.is_sound() {
         return false;
@@ -63,30 +64,21 @@ fn sound_taken(places: [Open; PLACES], n: u16, x: Item, its: u8) -> bool
     if !x.pending.is_sound() {
         return false;
     }
-    let q = place_of(places, TransactionNumber(n));
-    if has(its, q) {
-        return false;
-    }
-    x.held.together(x.pending) <= PAIRS
+    let q = place_of(b.open, TransactionNumber(n));
+    !has(its, q) && x.held.together(x.pending) <= PAIRS
 }
 
 // Whether an item below the count, which depends on its places, is sound.
-pub(crate) fn sound_row(
-    records: [Record; DISTRICTS],
-    places: [Open; PLACES],
-    districts: usize,
-    x: Item,
-    its: u8,
-) -> bool
-    ensures { (b : Book) → b.records ≡ records → b.«open» ≡ places → b.districts ≡ districts → its ≡ set_of place_count (item_depends place_count x) → result ≡ sound_row place_count b x }
+pub(crate) fn sound_row(b: &Book, x: Item, its: u8) -> bool
+    ensures { its ≡ set_of place_count (item_depends place_count x) → result ≡ sound_row place_count b.now x }
 {
-    let district = x.district;
-    if districts <= district as usize {
+    if b.districts <= usize::from(x.district) {
         return false;
     }
-    let n = district_on(records, district);
+    let n = district_on(b.records, x.district);
     if n == 0 {
-        return sound_idle(x);
+        sound_idle(x)
+    } else {
+        sound_taken(b, n, x, its)
     }
-    sound_taken(places, n, x, its)
 }

@@ -17,31 +17,27 @@ use polyvalues::Polyvalue;
 fn is_concerned(x: Item, records: [Record; DISTRICTS], n: TransactionNumber, d: u8) -> bool
     ensures { (b : Book) → b.records ≡ records → result ≡ concerned b n.0 d x }
 {
-    if x.district != d {
-        return false;
-    }
-    let on = district_on(records, x.district);
-    on == n.0
+    x.district == d && district_on(records, x.district) == n.0
 }
 
 // Pending is held.
 fn installed(x: Item) -> Item
     ensures { result ≡ install x }
 {
-    let pending = x.pending;
-    let mut y = x;
-    y.held = pending;
-    y
+    Item {
+        held: x.pending,
+        ..x
+    }
 }
 
 // Pending is dropped.
 fn dropped(x: Item) -> Item
     ensures { result ≡ drop x }
 {
-    let held = x.held;
-    let mut y = x;
-    y.pending = held;
-    y
+    Item {
+        pending: x.held,
+        ..x
+    }
 }
 
 // Pending where the transaction at the place completes, held where it aborts.
@@ -49,24 +45,23 @@ fn split(x: Item, q: Place) -> Item
     requires { together (in_use x.pending) (in_use x.held) ≤ most_pairs }
     ensures { result ≡ split places q.0 x }
 {
-    let either = Polyvalue::select(q, x.pending, x.held);
-    let both = either.polyvalue;
-    let mut y = x;
-    y.held = both;
-    y.pending = both;
-    y
+    let both = Polyvalue::select(q, x.pending, x.held).unwrap();
+    Item {
+        held: both,
+        pending: both,
+        ..x
+    }
 }
 
 // Both with the place set to the outcome.
 fn reduced(x: Item, q: Place, outcome: bool) -> Item
     ensures { result ≡ reduce_item places q.0 outcome x }
 {
-    let held = x.held.reduce(q, outcome);
-    let pending = x.pending.reduce(q, outcome);
-    let mut y = x;
-    y.held = held;
-    y.pending = pending;
-    y
+    Item {
+        held: x.held.reduce(q, outcome),
+        pending: x.pending.reduce(q, outcome),
+        ..x
+    }
 }
 
 // Where the item is concerned, pending is held or is dropped.
@@ -82,10 +77,7 @@ fn settled(
     if !is_concerned(x, records, n, d) {
         return x;
     }
-    if completed {
-        return installed(x);
-    }
-    dropped(x)
+    if completed { installed(x) } else { dropped(x) }
 }
 
 // The item when the district hears the outcome of the transaction at the place.
@@ -102,8 +94,7 @@ pub(crate) fn heard(
     if x.district != d {
         return x;
     }
-    let y = settled(x, records, n, d, completed);
-    reduced(y, q, completed)
+    reduced(settled(x, records, n, d, completed), q, completed)
 }
 
 // The item when the district gives up on it, from computing or from waiting.
@@ -121,8 +112,5 @@ pub(crate) fn given_up(
     if !is_concerned(x, records, n, d) {
         return x;
     }
-    if computing {
-        return dropped(x);
-    }
-    split(x, q)
+    if computing { dropped(x) } else { split(x, q) }
 }

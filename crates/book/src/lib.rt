@@ -35,7 +35,7 @@ use polyvalues::Polyvalue;
 pub use tables::{DISTRICTS, ITEMS};
 
 // A district's record: idle (0), computing (1) or waiting (2), and on which transaction.
-#[derive(Clone, Copy)]
+#[derive(Clone, Copy, Debug, PartialEq, Eq)]
 pub struct Record {
     pub phase: u8,
     pub transaction: TransactionNumber,
@@ -51,7 +51,7 @@ pub struct Item {
 
 // An open transaction at its place: sets of districts, and a decision (0 none, 1 completed, 2 aborted).
 // A free place is all zeros.
-#[derive(Clone, Copy)]
+#[derive(Clone, Copy, Debug, PartialEq, Eq)]
 pub struct Open {
     pub number: TransactionNumber,
     pub touched: u8,
@@ -72,7 +72,7 @@ pub struct Book {
 }
 
 // A step of a program: 4 bytes.
-#[derive(Clone, Copy)]
+#[derive(Clone, Copy, Debug, PartialEq, Eq)]
 pub struct Step {
     pub kind: u8,
     pub item: u8,
@@ -80,7 +80,7 @@ pub struct Step {
 }
 
 // An item of a book that is to be opened.
-#[derive(Clone, Copy)]
+#[derive(Clone, Copy, Debug, PartialEq, Eq)]
 pub struct Opening {
     pub district: u8,
     pub value: i16,

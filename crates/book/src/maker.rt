@@ -5,9 +5,10 @@ ghost use Rattle.book.specs.Book.{most_items, no_item, no_book};
 ghost use Rattle.book.specs.Open.{good_item, good_items, good_opening, opened_item};
 ghost use Rattle.book.specs.Openings.{openings_of, opened_rows};
 
+use crate::records::RESTING;
 use crate::sound::good_counts;
 use crate::tables::{DISTRICTS, FREE, ITEMS};
-use crate::{Book, Item, Opening, Record};
+use crate::{Book, Item, Opening};
 use conditions::{PLACES, TransactionNumber};
 use polyvalues::{Polyvalue, in_range};
 
@@ -34,17 +35,12 @@ fn zero_item() -> Item
 pub fn zero_book() -> Book
     ensures { result ≡ no_book places }
 {
-    let idle = Record {
-        phase: 0,
-        transaction: TransactionNumber(0),
-    };
-    let blank = zero_item();
     Book {
         last: TransactionNumber(0),
         districts: 0,
-        records: [idle; DISTRICTS],
+        records: [RESTING; DISTRICTS],
         count: 0,
-        items: [blank; ITEMS],
+        items: [zero_item(); ITEMS],
         open: [FREE; PLACES],
     }
 }
@@ -54,22 +50,16 @@ impl Opening {
     fn is_good(self, districts: usize) -> bool
         ensures { result ≡ good_item districts self }
     {
-        let district = self.district as usize;
-        if districts <= district {
-            return false;
-        }
-        in_range(self.value as i32)
+        usize::from(self.district) < districts && in_range(i32::from(self.value))
     }
 
     // The item when its book is opened.
     fn opened(self) -> Item
         ensures { result ≡ opened_item places self }
     {
-        let district = self.district;
-        let value = self.value;
-        let certain = Polyvalue::certain(value);
+        let certain = Polyvalue::certain(self.value);
         Item {
-            district,
+            district: self.district,
             held: certain,
             pending: certain,
         }
@@ -82,16 +72,9 @@ impl Openings {
         requires { self.count ≤ most_items }
         ensures { result ≡ good_items districts (openings_of self) }
     {
-        let n = self.count;
-        let mut i: usize = 0;
-        while i < n {
-            let x = self.items[i];
-            if !x.is_good(districts) {
-                return false;
-            }
-            i += 1;
-        }
-        true
+        self.items[..self.count]
+            .iter()
+            .all(|x| x.is_good(districts))
     }
 
     // Whether they and the count of districts open a book.
@@ -99,10 +82,7 @@ impl Openings {
         requires { self.count ≤ most_items }
         ensures { result ≡ good_opening districts (openings_of self) }
     {
-        if !good_counts(districts, self.count) {
-            return false;
-        }
-        self.are_good(districts)
+        good_counts(districts, self.count) && self.are_good(districts)
     }
 
     // The rows of items of the book.
@@ -110,14 +90,9 @@ impl Openings {
         requires { self.count ≤ most_items }
         ensures { result ≡ map (opened_item places) (openings_of self) ++ replicate (most_items - self.count) no_item }
     {
-        let n = self.count;
-        let blank = zero_item();
-        let mut items = [blank; ITEMS];
-        let mut i: usize = 0;
-        while i < n {
-            let x = self.items[i];
-            items[i] = x.opened();
-            i += 1;
+        let mut items = [zero_item(); ITEMS];
+        for i in 0..self.count {
+            items[i] = self.items[i].opened();
         }
         items
     }
@@ -127,17 +102,16 @@ impl Openings {
 pub fn opened(districts: usize, items: Openings) -> Book
     ensures { result ≡ opened_rows places districts items }
 {
-    let n = items.count;
-    if ITEMS < n {
+    if ITEMS < items.count {
         return zero_book();
     }
     if !items.open_a_book(districts) {
         return zero_book();
     }
-    let rows = items.rows();
-    let mut b = zero_book();
-    b.districts = districts;
-    b.count = n;
-    b.items = rows;
-    b
+    Book {
+        districts,
+        count: items.count,
+        items: items.rows(),
+        ..zero_book()
+    }
 }

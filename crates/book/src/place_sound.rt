@@ -10,26 +10,14 @@ ghost use Rattle.book.specs.SoundTest.{zero_open, sound_at, sound_open, sound_pl
 use crate::Open;
 use crate::forget::is_kept;
 use crate::sets::has;
-use crate::tables::Tables;
+use crate::tables::{FREE, Tables};
 use conditions::{PLACES, TransactionNumber};
 
 // Whether a place holds zeros.
 fn zero_open(o: Open) -> bool
     ensures { result ≡ zero_open o }
 {
-    if o.number.0 != 0 {
-        return false;
-    }
-    if o.touched != 0 {
-        return false;
-    }
-    if o.ready != 0 {
-        return false;
-    }
-    if o.gave != 0 {
-        return false;
-    }
-    o.decision == 0
+    o == FREE
 }
 
 // Whether a set of districts has only those below the count.
@@ -37,7 +25,7 @@ fn is_within(set: u8, districts: usize) -> bool
     requires { districts ≤ most_districts }
     ensures { result ≡ ltb set (2 ^ districts) }
 {
-    (set as u16) < (1u16 << districts)
+    u16::from(set) < 1u16 << districts
 }
 
 // Whether ready and gave-up are apart and within touched, and a completed transaction has the
@@ -47,30 +35,18 @@ fn sound_at(o: Open, d: usize) -> bool
 {
     let ready = has(o.ready, d);
     let gave = has(o.gave, d);
-    if !has(o.touched, d) {
-        if ready {
-            return false;
-        }
-        return !gave;
+    if has(o.touched, d) {
+        if ready { !gave } else { o.decision != 1 }
+    } else {
+        !ready && !gave
     }
-    if ready {
-        return !gave;
-    }
-    o.decision != 1
 }
 
 // Whether that holds of each district.
 fn sound_sets(o: Open, districts: usize) -> bool
     ensures { result ≡ all districts (sound_at o) }
 {
-    let mut d: usize = 0;
-    while d < districts {
-        if !sound_at(o, d) {
-            return false;
-        }
-        d += 1;
-    }
-    true
+    (0..districts).all(|d| sound_at(o, d))
 }
 
 // Whether no place before q has the number.
@@ -78,15 +54,7 @@ fn number_differs(places: [Open; PLACES], q: usize, n: TransactionNumber) -> boo
     requires { q ≤ place_count }
     ensures { result ≡ all q (λ p. not (eqb (get_or places p no_open).number.0 n.0)) }
 {
-    let mut p: usize = 0;
-    while p < q {
-        let o = places[p];
-        if o.number.0 == n.0 {
-            return false;
-        }
-        p += 1;
-    }
-    true
+    places[..q].iter().all(|o| o.number != n)
 }
 
 // Whether the open transaction at a place is sound.
@@ -107,8 +75,7 @@ fn sound_open(t: Tables, q: usize, o: Open) -> bool
     if 2 < o.decision {
         return false;
     }
-    let places = t.open;
-    if !number_differs(places, q, o.number) {
+    if !number_differs(t.open, q, o.number) {
         return false;
     }
     if t.last.0 < o.number.0 {
@@ -129,10 +96,7 @@ fn sound_place(t: Tables, q: usize) -> bool
     if o.number.0 != 0 {
         return sound_open(t, q, o);
     }
-    if !zero_open(o) {
-        return false;
-    }
-    !has(t.depended, q)
+    zero_open(o) && !has(t.depended, q)
 }
 
 // Whether each of them is.
@@ -140,12 +104,10 @@ pub(crate) fn sound_places(t: Tables) -> bool
     requires { t.districts ≤ most_districts }
     ensures { (b : Book) → TablesOf place_count b t → result ≡ all place_count (sound_place place_count b) }
 {
-    let mut q: usize = 0;
-    while q < PLACES {
+    for q in 0..PLACES {
         if !sound_place(t, q) {
             return false;
         }
-        q += 1;
     }
     true
 }

@@ -1,9 +1,9 @@
 // Programs: the steps that lent bytes stand for, and the values after them.
 ghost use Rattle.std.specs.Prelude.{◌≡◌, false, ◌≤◌, ◌<◌, length, get_or};
 ghost use Rattle.book.specs.Book.{most_items};
-ghost use Rattle.book.specs.Programs.{steps, touches, some_step};
+ghost use Rattle.book.specs.Programs.{steps, run, touches, some_step};
 ghost use Rattle.book.specs.Begin.{most_steps, bad_length, bad_step, bad_program, outside};
-ghost use Rattle.book.specs.States.{no_step, steps_of, program_of, state_of, ran};
+ghost use Rattle.book.specs.States.{no_step, steps_of, program_of, state_of, state_rows, ran};
 
 use crate::Step;
 use crate::state::State;
@@ -19,13 +19,9 @@ pub struct Program {
     steps: [Step; STEPS],
 }
 
-// The number of the first step that declined, from 1 on, and 0 where none did; and the state after
-// the program.
-#[derive(Clone, Copy)]
-pub struct Ran {
-    pub declined: usize,
-    pub state: State,
-}
+// The number of the first step that declined, from 1 on.
+#[derive(Clone, Copy, PartialEq, Eq)]
+pub struct Declined(pub usize);
 
 // The step that stands in the bytes from 4 j on.
 fn step_at(bytes: &[u8], j: usize) -> Step
@@ -70,11 +66,8 @@ pub(crate) fn read(bytes: &[u8]) -> Program
         operand: 0,
     };
     let mut steps = [blank; STEPS];
-    let mut i: usize = 0;
-    while i < n {
-        let x = step_at(bytes, i);
-        steps[i] = x;
-        i += 1;
+    for i in 0..n {
+        steps[i] = step_at(bytes, i);
     }
     Program { count: n, steps }
 }
@@ -83,94 +76,50 @@ pub(crate) fn read(bytes: &[u8]) -> Program
 pub(crate) fn bad_program(bytes: &[u8]) -> bool
     ensures { result ≡ bad_program bytes.now }
 {
-    if bad_length(bytes) {
-        return true;
-    }
-    read(bytes).has_bad_step()
+    bad_length(bytes) || read(bytes).has_bad_step()
 }
 
 impl Program {
-    // How many rows are in use: any count may be handed in.
-    fn len(self) -> usize
-        ensures value { result ≡ length (steps_of self) }
-        ensures upper_bound { result ≤ most_steps }
+    // The steps that count: any count may be handed in.
+    fn steps(&self) -> &[Step]
+        ensures { result.now ≡ steps_of self.now }
     {
-        let n = self.count;
-        if STEPS < n {
-            return STEPS;
-        }
-        n
+        &self.steps[..self.count.min(STEPS)]
     }
 
     // Whether a step is bad.
     fn has_bad_step(self) -> bool
         ensures { result ≡ some_step bad_step (steps_of self) }
     {
-        let n = self.len();
-        let mut i: usize = 0;
-        while i < n {
-            let x = self.steps[i];
-            if x.is_bad() {
-                return true;
-            }
-            i += 1;
-        }
-        false
+        self.steps().iter().any(|x| x.is_bad())
     }
 
     // Whether a step names an item that is not in the table.
     pub(crate) fn is_outside(self, count: usize) -> bool
         ensures { result ≡ some_step (outside count) (steps_of self) }
     {
-        let n = self.len();
-        let mut i: usize = 0;
-        while i < n {
-            let x = self.steps[i];
-            if x.is_outside(count) {
-                return true;
-            }
-            i += 1;
-        }
-        false
+        self.steps().iter().any(|x| x.is_outside(count))
     }
 
     // Whether a step names the item.
     pub(crate) fn touches(self, item: usize) -> bool
         ensures { result ≡ touches (steps_of self) item }
     {
-        let n = self.len();
-        let mut i: usize = 0;
-        while i < n {
-            let x = self.steps[i];
-            if x.names(item) {
-                return true;
-            }
-            i += 1;
-        }
-        false
+        self.steps().iter().any(|x| x.names(item))
     }
 
     // The program run on a state: a program that declines changes nothing at all.
-    pub(crate) fn run(self, start: State) -> Ran
+    pub(crate) fn run(self, state: &mut State) -> Result<(), Declined>
         requires { some_step (outside most_items) (steps_of self) ≡ false }
-        ensures { result ≡ ran (steps_of self) (state_of start) }
+        ensures answer { result ≡ ran (steps_of self) (state_of state.old) }
+        ensures values { state.new ≡ state_rows (run (steps_of self) (state_of state.old)) }
     {
-        let n = self.len();
-        let mut state = start;
-        let mut i: usize = 0;
-        while i < n {
-            let x = self.steps[i];
-            let next = state.after(x);
-            if next.declines {
-                let number = i + 1;
-                return Ran {
-                    declined: number,
-                    state: start,
-                };
-            }
-            state = next.state;
-            i += 1;
+        let steps = self.steps();
+        let mut now = *state;
+        for (i, x) in steps.iter().enumerate() {
+            now = now.after(*x).ok_or(Declined(i + 1))?;
         }
-        Ran { declined: 0, state }
+        *state = now;
+        Ok(())
     }
 }

@@ -5,77 +5,75 @@ ghost use Rattle.book.specs.Records.{computing_on, busy_on, ready_record, give_u
 use crate::Record;
 use conditions::TransactionNumber;
 
+// The phases of a record, and the record of an idle district.
+pub(crate) const IDLE: u8 = 0;
+
+pub(crate) const COMPUTING: u8 = 1;
+
+pub(crate) const WAITING: u8 = 2;
+
+pub(crate) const RESTING: Record = Record {
+    phase: IDLE,
+    transaction: TransactionNumber(0),
+};
+
 // Whether the district is computing on the transaction.
 pub(crate) fn computing_on(district: Record, n: TransactionNumber) -> bool
     ensures { result ≡ computing_on n.0 district }
 {
-    if district.phase != 1 {
-        return false;
-    }
-    district.transaction.0 == n.0
+    district.phase == COMPUTING && district.transaction == n
 }
 
 // Whether it is busy on it: computing or waiting.
 pub(crate) fn busy_on(district: Record, n: TransactionNumber) -> bool
     ensures { result ≡ busy_on n.0 district }
 {
-    if computing_on(district, n) {
-        return true;
-    }
-    if district.phase != 2 {
-        return false;
-    }
-    district.transaction.0 == n.0
+    computing_on(district, n) || (district.phase == WAITING && district.transaction == n)
 }
 
 // Ready: computing to waiting.
 fn wait(district: &mut Record)
     ensures { district.new ≡ ready_record district.old }
 {
-    district.phase = 2;
+    district.phase = WAITING;
 }
 
 // Give up: to idle.
 fn rest(district: &mut Record)
     ensures { district.new ≡ give_up_record district.old }
 {
-    district.phase = 0;
-    district.transaction.0 = 0;
+    *district = RESTING;
 }
 
 // Hear: to idle, where it is busy on the transaction.
 fn hear(district: &mut Record, n: TransactionNumber)
     ensures { district.new ≡ hear_record n.0 district.old }
 {
-    let d = *district;
-    if busy_on(d, n) {
+    if busy_on(*district, n) {
         rest(district);
     }
 }
 
 // The record after ready.
-pub(crate) fn readied(r: Record) -> Record
+pub(crate) fn readied(mut r: Record) -> Record
     ensures { result ≡ ready_record r }
 {
-    let mut district = r;
-    wait(&mut district);
-    district
+    wait(&mut r);
+    r
 }
 
 // The record after give up.
-pub(crate) fn rested(r: Record) -> Record
+pub(crate) fn rested(mut r: Record) -> Record
     ensures { result ≡ give_up_record r }
 {
-    let mut district = r;
-    rest(&mut district);
-    district
+    rest(&mut r);
+    r
 }
 
 // The record after hear.
-pub(crate) fn heard(r: Record, n: TransactionNumber) -> Record
+pub(crate) fn heard(mut r: Record, n: TransactionNumber) -> Record
     ensures { result ≡ hear_record n.0 r }
 {
-    let mut district = r;
-    hear(&mut district, n);
-    district
+    hear(&mut r, n);
+    r
 }

@@ -9,10 +9,7 @@ use crate::tables::DISTRICTS;
 pub(crate) fn has(set: u8, d: usize) -> bool
     ensures { result ≡ member set d }
 {
-    if DISTRICTS <= d {
-        return false;
-    }
-    (set >> d) & 1 == 1
+    d < DISTRICTS && (set >> d) & 1 == 1
 }
 
 // The set and the district.

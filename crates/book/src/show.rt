@@ -5,7 +5,7 @@ ghost use Rattle.conditions.specs.Written.{written};
 ghost use Rattle.book.specs.Show.{line_of, line_shown, shown, show};
 
 use crate::{Book, Open, Refusal};
-use conditions::{PLACES, TransactionNumber, Written};
+use conditions::{NoRoom, PLACES, TransactionNumber};
 use polyvalues::Polyvalue;
 
 // The number of the transaction at each place.
@@ -31,8 +31,8 @@ fn write_held(held: Polyvalue, open: [Open; PLACES], buf: &mut [u8]) -> Result<u
 {
     let numbers = numbers_at(open);
     match held.write_text(numbers, buf, 0) {
-        Written::To(end) => Ok(end),
-        Written::NoRoom => Err(Refusal::ShortBuffer),
+        Ok(end) => Ok(end),
+        Err(NoRoom) => Err(Refusal::ShortBuffer),
     }
 }
 

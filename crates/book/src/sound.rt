@@ -6,7 +6,7 @@ ghost use Rattle.book.specs.SoundTest.{sound};
 
 use crate::Book;
 use crate::district_sound::sound_districts;
-use crate::item_sound::{sound_row, zero_row};
+use crate::item_sound::{sound_row, zero_rows};
 use crate::place_sound::sound_places;
 use crate::tables::{DISTRICTS, ITEMS, Tables, places_of};
 
@@ -14,16 +14,7 @@ use crate::tables::{DISTRICTS, ITEMS, Tables, places_of};
 pub(crate) fn good_counts(districts: usize, count: usize) -> bool
     ensures { result ≡ good_counts districts count }
 {
-    if districts < 1 {
-        return false;
-    }
-    if DISTRICTS < districts {
-        return false;
-    }
-    if count < 1 {
-        return false;
-    }
-    count <= ITEMS
+    (1..=DISTRICTS).contains(&districts) && (1..=ITEMS).contains(&count)
 }
 
 impl Book {
@@ -32,42 +23,27 @@ impl Book {
     pub fn is_sound(self) -> bool
         ensures { result ≡ sound place_count self }
     {
-        let count = self.count;
-        let districts = self.districts;
-        if !good_counts(districts, count) {
+        if !good_counts(self.districts, self.count) {
             return false;
         }
-        let records = self.records;
-        let open = self.open;
-        let mut depended: u8 = 0;
-        let mut i: usize = 0;
-        while i < count {
-            let x = self.items[i];
-            let its = places_of(x);
-            if !sound_row(records, open, districts, x, its) {
+        let mut depended = 0;
+        for x in &self.items[..self.count] {
+            let its = places_of(*x);
+            if !sound_row(&self, *x, its) {
                 return false;
             }
-            depended = depended | its;
-            i += 1;
+            depended |= its;
         }
-        while i < ITEMS {
-            let x = self.items[i];
-            if !zero_row(x) {
-                return false;
-            }
-            i += 1;
+        if !zero_rows(&self.items[self.count..]) {
+            return false;
         }
-        let last = self.last;
         let t = Tables {
-            last,
-            districts,
-            records,
-            open,
+            last: self.last,
+            districts: self.districts,
+            records: self.records,
+            open: self.open,
             depended,
         };
-        if !sound_districts(t) {
-            return false;
-        }
-        sound_places(t)
+        sound_districts(&self) && sound_places(t)
     }
 }

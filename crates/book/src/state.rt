@@ -6,9 +6,9 @@ ghost use Rattle.book.specs.Begin.{outside};
 ghost use Rattle.book.specs.States.{state_of, state_rows, added, stepped};
 
 use crate::Step;
-use crate::steps::{ADD, COPY, NEED, SET, numbered};
+use crate::steps::{Kind, numbered};
 use crate::tables::ITEMS;
-use polyvalues::{Added, below, sum};
+use polyvalues::{below, sum};
 
 // A value of an item.
 #[derive(Clone, Copy)]
@@ -18,13 +18,6 @@ pub struct Value(pub i16);
 #[derive(Clone, Copy)]
 pub struct State {
     pub values: [Value; ITEMS],
-}
-
-// What a step leaves: a state that is as it was, where it declines.
-#[derive(Clone, Copy)]
-pub struct Stepped {
-    pub declines: bool,
-    pub state: State,
 }
 
 impl State {
@@ -39,59 +32,35 @@ impl State {
     }
 
     // The item takes the sum, or the step declines.
-    fn with_sum(self, item: usize, old: Value, operand: i16) -> Stepped
+    fn with_sum(self, item: usize, old: Value, operand: i16) -> Option<State>
         requires { item < most_items }
         ensures { result ≡ added (state_of self) item (old.0 +ℤ operand) }
     {
-        let before = old.0;
-        match sum(before, operand) {
-            Added::Value(v) => Stepped {
-                declines: false,
-                state: self.with(item, Value(v)),
-            },
-            Added::Declined => Stepped {
-                declines: true,
-                state: self,
-            },
+        match sum(old.0, operand) {
+            Some(v) => Some(self.with(item, Value(v))),
+            None => None,
         }
     }
 
-    // The step on a state.
-    pub(crate) fn after(self, x: Step) -> Stepped
+    // The state after the step, if the step does not decline.
+    pub(crate) fn after(self, x: Step) -> Option<State>
         requires { outside most_items x ≡ false }
         ensures { result ≡ stepped x (state_of self) }
     {
-        let item = x.item as usize;
-        let kind = x.kind;
-        let operand = x.operand;
-        let row = self.values[item];
-        if kind == NEED {
-            let old = row.0;
-            return Stepped {
-                declines: below(old, operand),
-                state: self,
-            };
-        }
-        if kind == ADD {
-            return self.with_sum(item, row, operand);
-        }
-        if kind == SET {
-            return Stepped {
-                declines: false,
-                state: self.with(item, Value(operand)),
-            };
-        }
-        if kind == COPY {
-            let source = numbered(operand);
-            let value = self.values[source];
-            return Stepped {
-                declines: false,
-                state: self.with(item, value),
-            };
-        }
-        Stepped {
-            declines: false,
-            state: self,
+        let item = usize::from(x.item);
+        let old = self.values[item];
+        match Kind::try_from(x.kind) {
+            Ok(Kind::Need) => {
+                if below(old.0, x.operand) {
+                    None
+                } else {
+                    Some(self)
+                }
+            }
+            Ok(Kind::Add) => self.with_sum(item, old, x.operand),
+            Ok(Kind::Set) => Some(self.with(item, Value(x.operand))),
+            Ok(Kind::Copy) => Some(self.with(item, self.values[numbered(x.operand)])),
+            Err(_) => Some(self),
         }
     }
 }

@@ -1,85 +1,85 @@
-// A step of a program: what is wrong with it, and which items it names.
+// A step of a program: its kind, what is wrong with it, and which items it names.
 ghost use Rattle.std.specs.Prelude.{◌≡◌};
-ghost use Rattle.book.specs.Programs.{numbered, names};
+ghost use Rattle.book.specs.Programs.{is_copy, numbered, names};
 ghost use Rattle.book.specs.Begin.{bad_step, in_table, outside};
+ghost use Rattle.book.specs.States.{KindOf};
 
 use crate::Step;
 use polyvalues::in_range;
 
 // The kinds of a step.
-pub(crate) const NEED: u8 = 1;
+#[derive(Clone, Copy, PartialEq, Eq)]
+pub enum Kind {
+    Need,
+    Add,
+    Set,
+    Copy,
+}
 
-pub(crate) const ADD: u8 = 2;
+// A number that no kind has.
+#[derive(Clone, Copy, PartialEq, Eq)]
+pub struct UnknownKind(pub u8);
 
-pub(crate) const SET: u8 = 3;
+impl TryFrom<u8> for Kind {
+    type Error = UnknownKind;
 
-pub(crate) const COPY: u8 = 4;
+    ghost try_from_gives = { KindOf };
+
+    fn try_from(kind: u8) -> Result<Self, UnknownKind> {
+        match kind {
+            1 => Ok(Kind::Need),
+            2 => Ok(Kind::Add),
+            3 => Ok(Kind::Set),
+            4 => Ok(Kind::Copy),
+            _ => Err(UnknownKind(kind)),
+        }
+    }
+}
 
 // The item that a Copy's operand numbers.
 pub(crate) fn numbered(operand: i16) -> usize
     ensures { result ≡ numbered operand }
 {
-    if operand < 0 {
-        return 0;
-    }
-    operand as usize
+    usize::try_from(operand).unwrap_or(0)
 }
 
 // Whether the number is that of an item.
 fn in_table(operand: i16, count: usize) -> bool
     ensures { result ≡ in_table count operand }
 {
-    if operand < 0 {
-        return false;
-    }
-    numbered(operand) < count
+    usize::try_from(operand).is_ok_and(|n| n < count)
 }
 
 impl Step {
+    // Whether it takes the value of another item.
+    fn is_copy(self) -> bool
+        ensures { result ≡ is_copy self }
+    {
+        Kind::try_from(self.kind) == Ok(Kind::Copy)
+    }
+
     // Whether its kind is unknown, or its operand no value where one is asked.
     pub(crate) fn is_bad(self) -> bool
         ensures { result ≡ bad_step self }
     {
-        let kind = self.kind;
-        if kind < NEED {
-            return true;
+        match Kind::try_from(self.kind) {
+            Ok(Kind::Copy) => false,
+            Ok(_) => !in_range(i32::from(self.operand)),
+            Err(_) => true,
         }
-        if COPY < kind {
-            return true;
-        }
-        if kind == COPY {
-            return false;
-        }
-        !in_range(self.operand as i32)
     }
 
     // Whether it names an item that is not in the table.
     pub(crate) fn is_outside(self, count: usize) -> bool
         ensures { result ≡ outside count self }
     {
-        let item = self.item as usize;
-        if count <= item {
-            return true;
-        }
-        if self.kind == COPY {
-            let operand = self.operand;
-            return !in_table(operand, count);
-        }
-        false
+        count <= usize::from(self.item) || (self.is_copy() && !in_table(self.operand, count))
     }
 
     // Whether it names the item i.
     pub(crate) fn names(self, i: usize) -> bool
         ensures { result ≡ names self i }
     {
-        let item = self.item as usize;
-        if item == i {
-            return true;
-        }
-        if self.kind == COPY {
-            let operand = self.operand;
-            return numbered(operand) == i;
-        }
-        false
+        usize::from(self.item) == i || (self.is_copy() && numbered(self.operand) == i)
     }
 }

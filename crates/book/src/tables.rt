@@ -15,6 +15,7 @@ ghost use Rattle.book.specs.Book.{
   item_depends,
 };
 
+use crate::records::IDLE;
 use crate::{Item, Open, Record};
 use conditions::{Condition, PLACES, Place, TransactionNumber};
 use polyvalues::Polyvalue;
@@ -48,22 +49,16 @@ pub struct Tables {
 pub(crate) fn record_on(r: Record) -> u16
     ensures { result ≡ record_on r }
 {
-    if r.phase == 0 {
-        return 0;
-    }
-    r.transaction.0
+    if r.phase == IDLE { 0 } else { r.transaction.0 }
 }
 
 // The number of the transaction that the items of a district are on.
 pub(crate) fn district_on(records: [Record; DISTRICTS], district: u8) -> u16
     ensures { result ≡ record_on (get_or records district no_record) }
 {
-    let d = district as usize;
-    if DISTRICTS <= d {
-        return 0;
-    }
-    let r = records[d];
-    record_on(r)
+    records
+        .get(usize::from(district))
+        .map_or(0, |r| record_on(*r))
 }
 
 // Whether a district is on the transaction.
@@ -71,88 +66,55 @@ pub(crate) fn some_on(records: [Record; DISTRICTS], districts: usize, n: u16) ->
     requires { districts ≤ most_districts }
     ensures { result ≡ any districts (λ d. eqb (record_on (get_or records d no_record)) n) }
 {
-    let mut d: usize = 0;
-    while d < districts {
-        let r = records[d];
-        if record_on(r) == n {
-            return true;
-        }
-        d += 1;
-    }
-    false
+    records[..districts].iter().any(|r| record_on(*r) == n)
 }
 
 // Whether the transaction at a place has the number.
 fn is_named(o: Open, n: TransactionNumber) -> bool
     ensures { result ≡ named n.0 o }
 {
-    if o.number.0 == 0 {
-        return false;
-    }
-    o.number.0 == n.0
+    o.number.0 != 0 && o.number.0 == n.0
 }
 
 // The place of the open transaction with the number, or the number of places where none has it.
 pub(crate) fn place_of(places: [Open; PLACES], n: TransactionNumber) -> usize
     ensures { result ≡ first place_count (λ q. named n.0 (get_or places q no_open)) }
 {
-    let mut q: usize = 0;
-    while q < PLACES {
-        let o = places[q];
-        if is_named(o, n) {
-            return q;
-        }
-        q += 1;
-    }
-    q
+    places
+        .iter()
+        .position(|o| is_named(*o, n))
+        .unwrap_or(PLACES)
 }
 
 // The lowest free place, or the number of places where none is free.
 pub(crate) fn free_place(places: [Open; PLACES]) -> usize
     ensures { result ≡ first place_count (λ q. not (is_open (get_or places q no_open))) }
 {
-    let mut q: usize = 0;
-    while q < PLACES {
-        let o = places[q];
-        if o.number.0 == 0 {
-            return q;
-        }
-        q += 1;
-    }
-    q
+    places
+        .iter()
+        .position(|o| o.number.0 == 0)
+        .unwrap_or(PLACES)
 }
 
 // Whether the item's held or pending polyvalue depends on the place.
 pub(crate) fn item_depends(x: Item, q: Place) -> bool
     ensures { result ≡ item_depends place_count x q.0 }
 {
-    if x.held.depends(q) {
-        return true;
-    }
-    x.pending.depends(q)
+    x.held.depends(q) || x.pending.depends(q)
 }
 
 // Whether it is one pair that always applies: such a polyvalue depends on no place.
 fn is_certain(p: Polyvalue) -> bool
     ensures { result ≡ true → (q : ℕ) → depends place_count (in_use p) q ≡ false }
 {
-    if p.count != 1 {
-        return false;
-    }
-    let condition = p.conditions[0];
-    condition.same(Condition::FULL)
+    p.count == 1 && p.conditions[0].same(Condition::FULL)
 }
 
 // Whether both of the item's are.
 fn is_sure(x: Item) -> bool
     ensures { result ≡ true → (q : ℕ) → item_depends place_count x q ≡ false }
 {
-    let held = x.held;
-    if !is_certain(held) {
-        return false;
-    }
-    let pending = x.pending;
-    is_certain(pending)
+    is_certain(x.held) && is_certain(x.pending)
 }
 
 // The set of the places that the item depends on.
@@ -162,7 +124,5 @@ pub(crate) fn places_of(x: Item) -> u8
     if is_sure(x) {
         return 0;
     }
-    let held = x.held.places();
-    let pending = x.pending.places();
-    held | pending
+    x.held.places() | x.pending.places()
 }

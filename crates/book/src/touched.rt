@@ -15,25 +15,19 @@ use conditions::TransactionNumber;
 pub(crate) fn with_district(set: u8, is_touched: bool, district: u8) -> u8
     ensures { (d : ℕ) → d < most_districts → member result d ≡ (member set d || (is_touched && eqb district d)) }
 {
-    if !is_touched {
-        return set;
+    let d = usize::from(district);
+    if is_touched && d < DISTRICTS {
+        including(set, d)
+    } else {
+        set
     }
-    let d = district as usize;
-    if DISTRICTS <= d {
-        return set;
-    }
-    including(set, d)
 }
 
 // Whether the set has the district, and it is on a transaction.
 fn is_busy(r: Record, set: u8, d: usize) -> bool
     ensures { result ≡ (member set d && not (eqb (record_on r) 0)) }
 {
-    if !has(set, d) {
-        return false;
-    }
-    let on = record_on(r);
-    on != 0
+    has(set, d) && record_on(r) != 0
 }
 
 // Whether a district of the set is.
@@ -41,15 +35,10 @@ pub(crate) fn some_busy(records: [Record; DISTRICTS], districts: usize, set: u8)
     requires { districts ≤ most_districts }
     ensures { result ≡ any districts (λ d. member set d && not (eqb (record_on (get_or records d no_record)) 0)) }
 {
-    let mut d: usize = 0;
-    while d < districts {
-        let r = records[d];
-        if is_busy(r, set, d) {
-            return true;
-        }
-        d += 1;
-    }
-    false
+    records[..districts]
+        .iter()
+        .enumerate()
+        .any(|(d, r)| is_busy(*r, set, d))
 }
 
 // The record of the district d when the districts of the set begin to compute.
@@ -58,12 +47,13 @@ fn begun_record(r: Record, set: u8, d: usize, n: TransactionNumber) -> Record
     ensures { result ≡ cond (member set d) (begin_record n.0) r }
 {
     if has(set, d) {
-        return Record {
+        Record {
             phase: 1,
             transaction: n,
-        };
+        }
+    } else {
+        r
     }
-    r
 }
 
 // The records, where each district of the set computes on the transaction.
@@ -77,12 +67,8 @@ pub(crate) fn begun_records(
     ensures { result ≡ rows (λ d x. cond (member set d) (begin_record n.0) x) districts records }
 {
     let mut now = records;
-    let mut d: usize = 0;
-    while d < districts {
-        let r = now[d];
-        let s = begun_record(r, set, d, n);
-        now[d] = s;
-        d += 1;
+    for (d, r) in now[..districts].iter_mut().enumerate() {
+        *r = begun_record(*r, set, d, n);
     }
     now
 }

@@ -5,9 +5,8 @@ use Prim.Native.Nat.{ℕ, ◌≤◌, ◌<◌}
 use native.Mathlib.Omega.{arith}
 use lib.ListN.{length, replicate}
 use borrow.Author.Tests.{le-leb, lt-leb}
-use Rattle.conditions.specs.declared.text.Written.TheVariants.{To, NoRoom}
 use Rattle.conditions.specs.Text.{bytes}
-use Rattle.conditions.specs.Written.{Put}
+use Rattle.conditions.specs.Written.{no_room, Put}
 use Rattle.std.specs.Prelude.{Ok, Err}
 use Rattle.book.specs.declared.Refusal.{Refusal}
 use Rattle.book.specs.declared.Book.{Book}
@@ -23,17 +22,17 @@ use Rattle.sheet.proofs.Writing.{line-written, shown-line, refused-line}
 -- ---- a line in a buffer that has room for it
 
 pub plays : (x : EventResult) (position : ℕ) {l m : List ℕ} {end : ℕ} → Put l m 0 end (result_line position x) → end ≤ length l
-    → Plays x position l (record { written = To end; book = x.book }) m
+    → Plays x position l (record { written = Ok end; book = x.book }) m
 plays x position {l} {m} {end} p h =
     let w = line-written p (omega (arith, p.ends)) in
     let ends = w.0 in
-    record { result = λ k. record { written = To (ends k); book = x.book }; buffer = w.1 }
+    record { result = λ k. record { written = Ok (ends k); book = x.book }; buffer = w.1 }
 
 -- show's line
 module _ (w : ℕ) (b : Book) (i position : ℕ) where
   pub show-accepted : {l m : List ℕ} {end : ℕ} → Ok tt ≡ show_answer w b i (replicate lent_room 0)
       → Put l m 0 end (((head position (Ok tt) ++ bytes " ") ++ held_line w b i) ++ bytes "\n") → end ≤ length l
-      → Plays (of_show w b i) position l (record { written = To end; book = b }) m
+      → Plays (of_show w b i) position l (record { written = Ok end; book = b }) m
   unfolding of_show
   show-accepted is p h =
       plays (of_show w b i) position
@@ -41,7 +40,7 @@ module _ (w : ℕ) (b : Book) (i position : ℕ) where
 
   pub show-refused : {l m : List ℕ} {end : ℕ} {r : Refusal} → Err r ≡ show_answer w b i (replicate lent_room 0)
       → Put l m 0 end (event_line position (Err r) []) → end ≤ length l
-      → Plays (of_show w b i) position l (record { written = To end; book = b }) m
+      → Plays (of_show w b i) position l (record { written = Ok end; book = b }) m
   unfolding of_show
   show-refused {r = r} is p h =
       plays (of_show w b i) position
@@ -51,7 +50,7 @@ module _ (w : ℕ) (b : Book) (i position : ℕ) where
 
 module _ (w : ℕ) (b : Book) (s : List ℕ) (e : Event) (position : ℕ) (l : List ℕ) where
   pub too_short : length l < longest_line
-      → (record { written = NoRoom; book = b } ≡ played w b s e position l) × (l ≡ played_buffer w b s e position l)
+      → (record { written = Err no_room; book = b } ≡ played w b s e position l) × (l ≡ played_buffer w b s e position l)
   unfolding played played_buffer line_answer line_written
   too_short h = let short = lt-leb longest_line (length l) h in (rw short, rw short)
 

@@ -3,7 +3,8 @@ ghost use Rattle.std.specs.Prelude.{◌≡◌};
 ghost use Rattle.conditions.specs.Places.{places};
 ghost use Rattle.sheet.specs.Open.{refused, open_sheet};
 
-use crate::sections::{districts, events, items};
+use crate::readers::{Read, Wrong};
+use crate::sections::whole;
 use book::{Answer, Book, Refusal, opened, zero_book};
 
 // How many bytes a sheet may have.
@@ -21,6 +22,7 @@ pub struct Opened {
 }
 
 // What a refused sheet gives.
+#[tactic(auto, unfolding(crate::specs::Open::refused))]
 fn refused(refusal: Refusal, place: usize) -> Opened
     ensures { result ≡ refused places refusal place }
 {
@@ -34,35 +36,21 @@ fn refused(refusal: Refusal, place: usize) -> Opened
 }
 
 // The call.
+#[tactic(auto, unfolding(crate::specs::Open::open_sheet, crate::specs::Open::opened_sheet, crate::specs::Open::refused))]
 pub fn open(sheet: &[u8]) -> Opened
     ensures { result ≡ open_sheet places sheet.now }
 {
-    let n = sheet.len();
-    if MOST_BYTES < n {
+    if MOST_BYTES < sheet.len() {
         return refused(Refusal::TooLong, 0);
     }
-    let districts = districts(sheet);
-    if !districts.good {
-        return refused(Refusal::Malformed, districts.place);
-    }
-    let items = items(sheet, districts.place, districts.number);
-    if !items.good {
-        return refused(Refusal::Malformed, items.place);
-    }
-    let events = events(sheet, items.place);
-    if !events.good {
-        return refused(Refusal::Malformed, events.place);
-    }
-    let end = events.place;
-    if end < n {
-        return refused(Refusal::Malformed, end);
-    }
-    let openings = items.items;
-    Opened {
-        answer: Ok(()),
-        place: 0,
-        book: opened(districts.number, openings),
-        first: events.first,
-        count: events.count,
+    match whole(sheet) {
+        Ok(Read { value, .. }) => Opened {
+            answer: Ok(()),
+            place: 0,
+            book: opened(value.districts, value.items),
+            first: value.events.first,
+            count: value.events.count,
+        },
+        Err(Wrong(place)) => refused(Refusal::Malformed, place),
     }
 }

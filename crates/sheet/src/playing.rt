@@ -8,13 +8,13 @@ ghost use Rattle.sheet.specs.Plays.{Plays};
 use crate::events::Event;
 use crate::lines::{LENT, LONGEST_LINE, put_byte, put_field, put_head, put_plain};
 use book::{Begun, Book, Done};
-use conditions::Written;
+use conditions::NoRoom;
 
 // What playing an event gives: where its line ends, and the book that the next event takes. Where the
 // buffer is too short, nothing was played.
 #[derive(Clone, Copy)]
 pub struct Played {
-    pub written: Written,
+    pub written: Result<usize, NoRoom>,
     pub book: Book,
 }
 
@@ -49,14 +49,14 @@ fn begun(x: Begun, position: u64, buf: &mut [u8]) -> Played
             let grant = put_field(buf, number, x.grant as u64);
             let end = put_byte(buf, grant, b'\n');
             Played {
-                written: Written::To(end),
+                written: Ok(end),
                 book,
             }
         }
         Err(_) => {
             let end = put_plain(buf, position, answer);
             Played {
-                written: Written::To(end),
+                written: Ok(end),
                 book,
             }
         }
@@ -72,7 +72,7 @@ fn done(x: Done, position: u64, buf: &mut [u8]) -> Played
     let book = x.book;
     let end = put_plain(buf, position, answer);
     Played {
-        written: Written::To(end),
+        written: Ok(end),
         book,
     }
 }
@@ -90,14 +90,14 @@ fn shown(book: Book, item: u8, position: u64, buf: &mut [u8]) -> Played
         Ok(line) => {
             let end = put_byte(buf, from + line, b'\n');
             Played {
-                written: Written::To(end),
+                written: Ok(end),
                 book,
             }
         }
         Err(refusal) => {
             let end = put_plain(buf, position, Err(refusal));
             Played {
-                written: Written::To(end),
+                written: Ok(end),
                 book,
             }
         }
@@ -111,7 +111,7 @@ pub fn play(book: Book, sheet: &[u8], event: Event, position: u64, buf: &mut [u8
 {
     if buf.len() < LONGEST_LINE {
         return Played {
-            written: Written::NoRoom,
+            written: Err(NoRoom),
             book,
         };
     }

@@ -1,86 +1,90 @@
-use mathlib.Core.Path.{◌≡◌, refl, sym, ◌∙◌}
-use mathlib.Core.Bool.{and-false}
+use borrow.Author.Rules.{rules}
+use mathlib.Core.Path.{◌≡◌, refl, sym, ap, ◌∙◌}
+use mathlib.Core.Bool.{Bool, not, and-false}
+use Prim.Native.Nat.{ℕ, ◌<◌}
 use native.Mathlib.Numerals.{add-one}
 use native.Mathlib.Omega.{arith}
-use borrow.Author.Tests.{not-true, not-false}
+use lib.ListN.{length, get_or, take, drop, length-take}
+use Rattle.std.specs.List.{list_all}
+use Rattle.std.proofs.lemmas.List.{get_or-take}
 use Rattle.conditions.specs.Below.{all}
 use Rattle.conditions.specs.Places.{places as width}
+use Rattle.conditions.specs.Sets.{set_of}
 use Rattle.conditions.proofs.Laws.Below.{all_more, all-fails}
-use Rattle.book.specs.Book.{most_items}
-use Rattle.book.specs.SoundTest.{sound_item, sound}
+use Rattle.book.specs.declared.Book.{Book}
+use Rattle.book.specs.declared.Item.{Item}
+use Rattle.book.specs.Book.{most_items, no_item, void_item, item_at, item_depends}
+use Rattle.book.specs.SoundTest.{same_item, sound_row, sound_item, sound}
 use Rattle.book.specs.Tables.{TablesOf}
 use Rattle.book.proofs.Depended.{depended-more, all-depended}
+use Rattle.book.proofs.Lists.{to_the_end}
 use Rattle.book.proofs.Loops.{gathered_none}
-use Rattle.book.proofs.Testing.{few-rows, number-last, item-row, item-past}
+use Rattle.book.proofs.Testing.{few-rows, number-last, item-row, items-past}
 use Rattle.book.proofs.Book.is_sound.Goals as goal
+
+-- the item that a turn looks at is the book's
+here : (b : Book) (i : ℕ) → i < b.count → get_or (take b.count b.items) i void_item ≡ item_at b i
+here b i h = get_or-take b.count b.items i void_item h
+
+tested : (b : Book) (i : ℕ) → i < b.count → {r : Bool} → r ≡ sound_row width b (get_or (take b.count b.items) i void_item) → r ≡ sound_item width b i
+tested b i h e = e ∙ ap (sound_row width b) (here b i h) ∙ sym (item-row width b h)
 
 pub returns-then-not-good_counts : goal.returns-then-not-good_counts
 unfolding sound
-returns-then-not-good_counts c = rw (sym c.good_counts.ensures ∙ not-true _ c.if-not-good_counts.true-raw)
+returns-then-not-good_counts c = rw (sym c.good_counts.ensures ∙ c.if-not-good_counts.true)
 
-pub loop-i-init : goal.loop-i-init
+pub loop-x-init : goal.loop-x-init
 unfolding all
-loop-i-init c = (omega arith, refl, gathered_none width _)
-
-pub offset_bounds-self-i : goal.offset_bounds-self-i
-offset_bounds-self-i c = record { fits = omega (arith, (few-rows c.args.self.districts c.args.self.count c.good_counts.ensures c.if-not-good_counts.false-raw).1) }
-
-pub bounds-self-i : goal.bounds-self-i
-bounds-self-i c = omega (arith, (few-rows c.args.self.districts c.args.self.count c.good_counts.ensures c.if-not-good_counts.false-raw).1)
+loop-x-init c = (refl, gathered_none width _)
 
 pub returns-then-not-sound_row : goal.returns-then-not-sound_row
 unfolding sound
-returns-then-not-sound_row c = rw (all-fails most_items (sound_item width c.args.self) c.loop-i.i (omega (arith, (few-rows c.args.self.districts c.args.self.count c.good_counts.ensures c.if-not-good_counts.false-raw).1)) (item-row width c.args.self (omega arith) ∙ sym (c.sound_row.ensures c.args.self refl refl refl c.places_of-its.ensures) ∙ not-true _ c.if-not-sound_row.true-raw), and-false)
+returns-then-not-sound_row c =
+    let few = (few-rows c.args.self.districts c.args.self.count c.good_counts.ensures (ap not c.if-not-good_counts.false)).1 in
+    let below : c.loop-x.x-index < c.args.self.count = omega (arith, length-take c.args.self.count c.args.self.items) in
+    let fails = sym (tested c.args.self c.loop-x.x-index below (c.sound_row.ensures c.places_of-its.ensures)) ∙ c.if-not-sound_row.true in
+    rw (all-fails most_items (sound_item width c.args.self) c.loop-x.x-index (omega arith) fails, and-false)
 
-pub loop-i-smaller : goal.loop-i-smaller
-loop-i-smaller c = omega arith
+pub loop-x-preserved : goal.loop-x-preserved
+loop-x-preserved c =
+    let below : c.loop-x.x-index < c.args.self.count = omega (arith, length-take c.args.self.count c.args.self.items) in (
+      rw add-one (all_more _ _ c.loop-x.invariant.0 (sym (tested c.args.self c.loop-x.x-index below (c.sound_row.ensures c.places_of-its.ensures)) ∙ c.if-not-sound_row.false)),
+      depended-more width c.args.self c.loop-x.x-index c.loop-x.depended c.loop-x.invariant.1
+          (c.places_of-its.ensures ∙ ap (λ (x : Item). set_of width (item_depends width x)) (here c.args.self c.loop-x.x-index below)),
+    )
 
-pub loop-i-preserved : goal.loop-i-preserved
-unfolding sound_item
-loop-i-preserved c = (
-  omega arith,
-  rw add-one (all_more _ _ c.loop-i.invariant.1 (item-row width c.args.self (omega arith) ∙ sym (c.sound_row.ensures c.args.self refl refl refl c.places_of-its.ensures) ∙ not-false _ c.if-not-sound_row.false-raw)),
-  depended-more width c.args.self c.loop-i.i c.loop-i.depended c.loop-i.invariant.2 c.places_of-its.ensures,
-)
-
-pub loop-i-2-init : goal.loop-i-2-init
-loop-i-2-init c = (omega arith, omega (arith, (few-rows c.args.self.districts c.args.self.count c.good_counts.ensures c.if-not-good_counts.false-raw).1, c.loop-i.invariant.0), c.loop-i.invariant.1)
-
-pub bounds-self-i-in-loop-i-2 : goal.bounds-self-i-in-loop-i-2
-bounds-self-i-in-loop-i-2 c = omega arith
-
-pub returns-then-not-zero_row : goal.returns-then-not-zero_row
-unfolding sound sound_item
-returns-then-not-zero_row c =
-    rw (all-fails most_items (sound_item width c.args.self) c.loop-i-2.i (omega arith) (item-past width c.args.self c.loop-i-2.invariant.0 ∙ sym c.zero_row.ensures ∙ not-true _ c.if-not-zero_row.true-raw), and-false)
-
-pub loop-i-2-smaller : goal.loop-i-2-smaller
-loop-i-2-smaller c = omega arith
-
-pub loop-i-2-preserved : goal.loop-i-2-preserved
-unfolding sound_item
-loop-i-2-preserved c = (
-  omega (arith, c.loop-i-2.invariant.0),
-  omega arith,
-  rw add-one (all_more _ _ c.loop-i-2.invariant.2 (item-past width c.args.self c.loop-i-2.invariant.0 ∙ sym c.zero_row.ensures ∙ not-false _ c.if-not-zero_row.false-raw)),
-)
-
-pub returns-then-not-sound_districts : goal.returns-then-not-sound_districts
+pub returns-then-not-zero_rows : goal.returns-then-not-zero_rows
 unfolding sound
-returns-then-not-sound_districts c = rw (sym (c.sound_districts.ensures c.args.self (let last : c.loop-i.i ≡ c.args.self.count = omega (arith, c.loop-i.invariant.0) in record { last = refl; districts = refl; records = refl; places = refl; depended = all-depended width c.args.self c.loop-i.depended last c.loop-i.invariant.2 })) ∙ not-true _ c.if-not-sound_districts.true-raw, and-false)
+returns-then-not-zero_rows c =
+    let few = few-rows c.args.self.districts c.args.self.count c.good_counts.ensures (ap not c.if-not-good_counts.false) in
+    let long : length c.args.self.items ≡ most_items = search rules in
+    let last : c.loop-x.x-index ≡ c.args.self.count = omega (arith, length-take c.args.self.count c.args.self.items, few.1, long) in
+    let zeros : c.zero_rows.result ≡ list_all (λ x. same_item x no_item) (drop c.args.self.count c.args.self.items) =
+    c.zero_rows.ensures ∙ ap (list_all (λ x. same_item x no_item)) (to_the_end c.args.self.count c.args.self.items) in
+    let items = sym (items-past width c.args.self long few.1 (rw last at c.loop-x.invariant.0)) ∙ sym zeros in
+    rw (items ∙ c.if-not-zero_rows.true, and-false)
 
 pub sound_places-requires : goal.sound_places-requires
-sound_places-requires c = (few-rows c.args.self.districts c.args.self.count c.good_counts.ensures c.if-not-good_counts.false-raw).0
+sound_places-requires c = (few-rows c.args.self.districts c.args.self.count c.good_counts.ensures (ap not c.if-not-good_counts.false)).0
 
-pub returns : goal.returns
+pub returns-then-sound_districts : goal.returns-then-sound_districts
 unfolding sound
-returns c =
-    let tables : TablesOf width c.args.self _ = (let last : c.loop-i.i ≡ c.args.self.count = omega (arith, c.loop-i.invariant.0) in record { last = refl; districts = refl; records = refl; places = refl; depended = all-depended width c.args.self c.loop-i.depended last c.loop-i.invariant.2 }) in
-    let last : c.loop-i-2.i ≡ most_items = omega (arith, c.loop-i-2.invariant.1) in
+returns-then-sound_districts c =
+    let few = few-rows c.args.self.districts c.args.self.count c.good_counts.ensures (ap not c.if-not-good_counts.false) in
+    let long : length c.args.self.items ≡ most_items = search rules in
+    let last : c.loop-x.x-index ≡ c.args.self.count = omega (arith, length-take c.args.self.count c.args.self.items, few.1, long) in
+    let zeros : c.zero_rows.result ≡ list_all (λ x. same_item x no_item) (drop c.args.self.count c.args.self.items) =
+    c.zero_rows.ensures ∙ ap (list_all (λ x. same_item x no_item)) (to_the_end c.args.self.count c.args.self.items) in
+    let items = sym (items-past width c.args.self long few.1 (rw last at c.loop-x.invariant.0)) ∙ sym zeros in
+    let tables : TablesOf width c.args.self _ = record { last = refl; districts = refl; records = refl; places = refl; depended = all-depended width c.args.self c.loop-x.depended last c.loop-x.invariant.1 } in
     c.sound_places.ensures c.args.self tables
     ∙ rw (
-      sym c.good_counts.ensures ∙ not-false _ c.if-not-good_counts.false-raw,
+      sym c.good_counts.ensures ∙ c.if-not-good_counts.false,
       number-last c.well_formed.0.1.1.0.1.1.0.1,
-      sym (c.sound_districts.ensures c.args.self tables) ∙ not-false _ c.if-not-sound_districts.false-raw,
-      rw last at c.loop-i-2.invariant.2,
+      sym c.sound_districts.ensures ∙ c.if-sound_districts.true,
+      items ∙ c.if-not-zero_rows.false,
     )
+
+pub returns-else-sound_districts : goal.returns-else-sound_districts
+unfolding sound
+returns-else-sound_districts c = c.if-sound_districts.false ∙ rw (sym c.sound_districts.ensures ∙ c.if-sound_districts.false, and-false)

@@ -1,18 +1,16 @@
--- The item is tested, and then a Copy's source.
-use borrow.Author.Tests.{lt-ltb, le-ltb, eq-eqb, ne_eqb}
+use borrow.Author.Rules.{rules}
+use borrow.Author.Tests.{tests}
 use Rattle.book.specs.Begin.{outside}
-use Rattle.book.proofs.Naming.{back}
 use Rattle.book.proofs.Step.is_outside.Goals as goal
 
-pub returns-then-count-item : goal.returns-then-count-item
+pub returns-then-count-from : goal.returns-then-count-from
 unfolding outside
-returns-then-count-item c = simp (le-ltb _ _ c.if-count-item.true)
+returns-then-count-from c = search (tests, rules)
 
-pub returns-then-self-eq-COPY : goal.returns-then-self-eq-COPY
+pub returns-then-is_copy : goal.returns-then-is_copy
 unfolding outside
-returns-then-self-eq-COPY c =
-    simp (c.in_table.ensures, back c.args.self.operand c.struct_told-1.given.1.1.0.1, lt-ltb _ _ c.if-count-item.false, eq-eqb _ 4 c.if-self-eq-COPY.true)
+returns-then-is_copy c = search (tests, rules)
 
-pub returns : goal.returns
+pub returns-else-is_copy : goal.returns-else-is_copy
 unfolding outside
-returns c = simp (lt-ltb _ _ c.if-count-item.false, ne_eqb _ 4 c.if-self-eq-COPY.false)
+returns-else-is_copy c = search (tests, rules)

@@ -1,33 +1,31 @@
-use mathlib.Core.Path.{◌≡◌, refl, sym, ◌∙◌}
-use native.Mathlib.Numerals.{add-one}
+use borrow.Author.Rules.{rules}
+use borrow.Author.Tests.{tests}
+use mathlib.Core.Path.{◌≡◌, sym, ap, ◌∙◌}
+use mathlib.Core.Bool.{Bool, cond}
+use mathlib.Core.List.{List}
+use Prim.Native.Nat.{ℕ}
 use native.Mathlib.Omega.{arith}
-use Rattle.conditions.specs.Below.{all}
-use Rattle.conditions.proofs.Laws.Below.{all_more, all-fails}
-use borrow.Author.Tests.{not-true, not-false}
-use Rattle.conditions.specs.Places.{places as width}
-use Rattle.book.specs.Book.{most_districts}
-use Rattle.book.proofs.Depended.{district-in}
+use lib.Dec.{ltb}
+use lib.ListN.{length, take}
+use lib.Seq.{take-length}
+use Rattle.std.specs.List.{list_all, enumerate_from}
+use Rattle.std.proofs.lemmas.Iterator.{YieldsList-from_slice}
+use Rattle.std.proofs.lemmas.Iterator.Consumers.{YieldsList-from_enumerate}
+use Rattle.std.proofs.lemmas.Iterator.Search.{all_from_yields_List}
+use Rattle.conditions.specs.Places.{places}
+use Rattle.book.specs.declared.Record.{Record}
+use Rattle.book.specs.Book.{most_districts, no_record}
+use Rattle.book.specs.SoundTest.{zero_record, sound_record}
+use Rattle.book.proofs.Lists.{all_numbered}
+use Rattle.book.specs.SoundTest.{sound_district}
 use Rattle.book.proofs.district_sound.sound_districts.Goals as goal
 
-pub loop-d-init : goal.loop-d-init
-unfolding all
-loop-d-init c = (omega arith, λ b o. refl)
-
-pub bounds-t-d : goal.bounds-t-d
-bounds-t-d c = omega arith
-
-pub returns-then-not-sound_district : goal.returns-then-not-sound_district
-returns-then-not-sound_district c b o =
-    sym (all-fails _ _ c.loop-d.d (omega arith) (district-in width b c.args.t o c.loop-d.d ∙ sym (c.sound_district.ensures b o.places) ∙ not-true _ c.if-not-sound_district.true-raw))
-
-pub loop-d-smaller : goal.loop-d-smaller
-loop-d-smaller c = omega arith
-
-pub loop-d-preserved : goal.loop-d-preserved
-loop-d-preserved c = (
-  omega arith,
-  λ b o. rw add-one (all_more _ _ (c.loop-d.invariant.1 b o) (district-in width b c.args.t o c.loop-d.d ∙ sym (c.sound_district.ensures b o.places) ∙ not-false _ c.if-not-sound_district.false-raw)),
-)
-
 pub returns : goal.returns
-returns c b o = let last : c.loop-d.d ≡ most_districts = omega (arith, c.loop-d.invariant.0) in sym (rw last at (c.loop-d.invariant.1 b o))
+unfolding sound_district
+returns c =
+    let long : length c.args.b.now.records ≡ most_districts = search rules in
+    let sure : ℕ × Record → Bool = λ x. cond (ltb x.0 c.args.b.now.districts) (sound_record places c.args.b.now x.0 x.1) (zero_record x.1) in
+    let them : take most_districts c.args.b.now.records ≡ c.args.b.now.records = ap (λ (n : ℕ). take n c.args.b.now.records) (sym long) ∙ take-length c.args.b.now.records in
+    all_from_yields_List sure _ _ _ c.all.ensures.ran (YieldsList-from_enumerate (YieldsList-from_slice c.args.b.now.records cc) cc) (λ x b q k. search (rules, tests))
+    ∙ ap (λ (xs : List Record). list_all sure (enumerate_from 0 xs)) (sym them)
+    ∙ all_numbered no_record most_districts c.args.b.now.records (omega (arith, long)) sure

@@ -1,7 +1,8 @@
--- Held, then pending.
-use Rattle.book.specs.Items.{becomes, reduce_item}
+use borrow.Author.Rules.{rules}
+use borrow.Author.Tests.{tests}
+use Rattle.book.specs.Items.{reduce_item}
 use Rattle.book.proofs.items.reduced.Goals as goal
 
 pub returns : goal.returns
 unfolding reduce_item
-returns c = λ k. becomes c.args.x (c.reduce-held.ensures k) (c.reduce-pending.ensures k)
+returns c = search (tests, rules)

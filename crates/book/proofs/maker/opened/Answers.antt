@@ -1,18 +1,17 @@
 -- Each answer is that of the tests before it.
 use mathlib.Core.Path.{◌∙◌, sym}
-use borrow.Author.Tests.{not-true, not-false}
 use Rattle.conditions.specs.Places.{places}
 use Rattle.book.proofs.Laws.Openings.{too_many_rows}
 use Rattle.book.proofs.Making.{Held, openings-count, opens-none, opens_one}
 use Rattle.book.proofs.maker.opened.Goals as goal
 
-pub returns-then-n-gt-ITEMS : goal.returns-then-n-gt-ITEMS
-returns-then-n-gt-ITEMS c = c.zero_book.ensures ∙ sym (too_many_rows places c.args.districts c.args.items c.if-n-gt-ITEMS.true)
+pub returns-then-items-gt-ITEMS : goal.returns-then-items-gt-ITEMS
+returns-then-items-gt-ITEMS c = c.zero_book.ensures ∙ sym (too_many_rows places c.args.districts c.args.items c.if-items-gt-ITEMS.true)
 
 pub returns-then-not-open_a_book : goal.returns-then-not-open_a_book
-returns-then-not-open_a_book c = opens-none c.args.districts c.args.items c.if-n-gt-ITEMS.false c.zero_book-then-not-open_a_book.ensures (sym c.open_a_book.ensures ∙ not-true _ c.if-not-open_a_book.true-raw)
+returns-then-not-open_a_book c = opens-none c.args.districts c.args.items c.if-items-gt-ITEMS.false c.zero_book-then-not-open_a_book.ensures (sym c.open_a_book.ensures ∙ c.if-not-open_a_book.true)
 
 pub returns : goal.returns
 returns c =
     let held : Held c.args.items = record { values = _; own = c.well_formed.1.0 } in
-    opens_one c.args.districts c.args.items c.if-n-gt-ITEMS.false c.zero_book-b.ensures (openings-count held c.if-n-gt-ITEMS.false) (sym c.open_a_book.ensures ∙ not-false _ c.if-not-open_a_book.false-raw) c.rows-rows.ensures
+    opens_one c.args.districts c.args.items c.if-items-gt-ITEMS.false c.zero_book-2.ensures (openings-count held c.if-items-gt-ITEMS.false) (sym c.open_a_book.ensures ∙ c.if-not-open_a_book.false) c.rows.ensures

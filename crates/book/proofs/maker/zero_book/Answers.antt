@@ -8,4 +8,4 @@ use Rattle.book.proofs.maker.zero_book.Goals as goal
 
 pub returns : goal.returns
 unfolding no_book
-returns c = ap (λ (x : Item). with_items (no_book places) (replicate most_items x)) c.zero_item-blank.ensures
+returns c = ap (λ (x : Item). with_items (no_book places) (replicate most_items x)) c.zero_item.ensures

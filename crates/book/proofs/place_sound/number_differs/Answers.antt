@@ -1,30 +1,18 @@
-use mathlib.Core.Bool.{not}
-use mathlib.Core.Path.{◌≡◌, refl, sym, ap}
-use native.Mathlib.Numerals.{add-one}
-use native.Mathlib.Omega.{arith}
-use Rattle.conditions.specs.Below.{all}
-use Rattle.conditions.proofs.Laws.Below.{all_more, all-fails}
-use borrow.Author.Tests.{eq-eqb, ne_eqb}
+use borrow.Author.Rules.{rules}
+use borrow.Author.Tests.{tests}
+use mathlib.Core.Path.{◌∙◌}
+use mathlib.Core.Bool.{Bool, not}
+use lib.Dec.{eqb}
+use lib.ListN.{take}
+use Rattle.std.proofs.lemmas.Iterator.{YieldsList-from_slice}
+use Rattle.std.proofs.lemmas.Iterator.Search.{all_from_yields_List}
+use Rattle.book.specs.declared.Open.{Open}
+use Rattle.book.specs.Book.{no_open}
+use Rattle.book.proofs.Lists.{all_rows}
 use Rattle.book.proofs.place_sound.number_differs.Goals as goal
 
-pub loop-p-init : goal.loop-p-init
-unfolding all
-loop-p-init c = (omega arith, refl)
-
-pub offset_bounds-places-p : goal.offset_bounds-places-p
-offset_bounds-places-p c = record { fits = omega (arith, c.requires) }
-
-pub bounds-places-p : goal.bounds-places-p
-bounds-places-p c = omega (arith, c.requires)
-
-pub returns-then-o-n : goal.returns-then-o-n
-returns-then-o-n c = sym (all-fails _ _ c.loop-p.p (omega arith) (ap not (eq-eqb _ _ c.if-o-n.true)))
-
-pub loop-p-smaller : goal.loop-p-smaller
-loop-p-smaller c = omega arith
-
-pub loop-p-preserved : goal.loop-p-preserved
-loop-p-preserved c = (omega arith, rw add-one (all_more _ _ c.loop-p.invariant.1 (ap not (ne_eqb _ _ c.if-o-n.false))))
-
 pub returns : goal.returns
-returns c = let last : c.loop-p.p ≡ c.args.q = omega (arith, c.loop-p.invariant.0) in sym (rw last at c.loop-p.invariant.1)
+returns c =
+    let differs : Open → Bool = λ o. not (eqb o.number.0 c.args.n.0) in
+    all_from_yields_List differs _ _ _ c.all.ensures.ran (YieldsList-from_slice (take c.args.q c.args.places) cc) (λ x b q k. search (rules, tests))
+    ∙ all_rows differs no_open c.args.q c.args.places (search rules)

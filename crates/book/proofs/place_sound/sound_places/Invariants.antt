@@ -1,7 +1,6 @@
 -- The loop's invariant: each place before q is sound.
 use mathlib.Core.Path.{◌≡◌}
 use mathlib.Core.Bool.{true}
-use Prim.Native.Nat.{◌≤◌, ◌-◌}
 use Rattle.conditions.specs.Below.{all}
 use Rattle.conditions.specs.Places.{places as width}
 use Rattle.book.specs.declared.Book.{Book}
@@ -10,7 +9,4 @@ use Rattle.book.specs.Tables.{TablesOf}
 use Rattle.book.proofs.place_sound.sound_places.Given as goal
 
 abbrev pub invariant-loop-q : goal.invariant-loop-q
-invariant-loop-q l = (l.q ≤ width) × ((b : Book) → TablesOf width b l.t → all l.q (sound_place width b) ≡ true)
-
-abbrev pub decreases-loop-q : goal.decreases-loop-q
-decreases-loop-q l = width - l.q
+invariant-loop-q l = (b : Book) → TablesOf width b l.t → all l.q (sound_place width b) ≡ true

@@ -1,17 +1,16 @@
--- Computing, then the phase, then the number.
-use mathlib.Core.Path.{sym, ◌∙◌}
-use borrow.Author.Tests.{eq-eqb, ne_eqb}
+use borrow.Author.Rules.{rules}
+use borrow.Author.Tests.{tests}
 use Rattle.book.specs.Records.{busy_on, waiting_on}
 use Rattle.book.proofs.records.busy_on.Goals as goal
 
 pub returns-then-computing_on : goal.returns-then-computing_on
 unfolding busy_on waiting_on
-returns-then-computing_on c = rw (sym c.computing_on.ensures ∙ c.if-computing_on.true)
+returns-then-computing_on c = search (tests, rules)
 
-pub returns-then-district-ne2 : goal.returns-then-district-ne2
+pub returns-then-district-eq-WAITING : goal.returns-then-district-eq-WAITING
 unfolding busy_on waiting_on
-returns-then-district-ne2 c = rw (sym c.computing_on.ensures ∙ c.if-computing_on.false, ne_eqb _ 2 c.if-district-ne2.true)
+returns-then-district-eq-WAITING c = search (tests, rules)
 
-pub returns : goal.returns
+pub returns-else-district-eq-WAITING : goal.returns-else-district-eq-WAITING
 unfolding busy_on waiting_on
-returns c = rw (sym c.computing_on.ensures ∙ c.if-computing_on.false, eq-eqb _ 2 c.if-district-ne2.false)
+returns-else-district-eq-WAITING c = search (tests, rules)

@@ -1,12 +1,12 @@
--- The phase, then the number.
-use borrow.Author.Tests.{eq-eqb, ne_eqb}
+use borrow.Author.Rules.{rules}
+use borrow.Author.Tests.{tests}
 use Rattle.book.specs.Records.{computing_on}
 use Rattle.book.proofs.records.computing_on.Goals as goal
 
-pub returns-then-district-ne1 : goal.returns-then-district-ne1
+pub returns-then-district-eq-COMPUTING : goal.returns-then-district-eq-COMPUTING
 unfolding computing_on
-returns-then-district-ne1 c = rw (ne_eqb _ 1 c.if-district-ne1.true)
+returns-then-district-eq-COMPUTING c = search (tests, rules)
 
-pub returns : goal.returns
+pub returns-else-district-eq-COMPUTING : goal.returns-else-district-eq-COMPUTING
 unfolding computing_on
-returns c = rw (eq-eqb _ 1 c.if-district-ne1.false)
+returns-else-district-eq-COMPUTING c = search (tests, rules)

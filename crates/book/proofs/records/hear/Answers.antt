@@ -1,12 +1,12 @@
--- Where the district is busy on the transaction the record is the idle one, and else it is as it was.
-use mathlib.Core.Path.{sym, ◌∙◌}
+use borrow.Author.Rules.{rules}
+use borrow.Author.Tests.{tests}
 use Rattle.book.specs.Records.{hear_record}
 use Rattle.book.proofs.records.hear.Goals as goal
 
 pub returns-then-busy_on : goal.returns-then-busy_on
 unfolding hear_record
-returns-then-busy_on c = rw (sym c.busy_on.ensures ∙ c.if-busy_on.true) c.rest.ensures
+returns-then-busy_on c = search (tests, rules)
 
 pub returns-else-busy_on : goal.returns-else-busy_on
 unfolding hear_record
-returns-else-busy_on c = rw (sym c.busy_on.ensures ∙ c.if-busy_on.false)
+returns-else-busy_on c = search (tests, rules)

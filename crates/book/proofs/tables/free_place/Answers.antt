@@ -1,24 +1,13 @@
-use native.Mathlib.Omega.{arith}
-use borrow.Author.Count.{below_more}
-use Rattle.conditions.specs.Places.{places as width}
-use Rattle.conditions.proofs.Laws.Below.{is-first}
-use borrow.Author.Tests.{eq-eqb, ne_eqb}
+use borrow.Author.Rules.{rules}
+use borrow.Author.Tests.{tests}
+use mathlib.Core.Bool.{not}
+use Rattle.std.proofs.lemmas.Iterator.{YieldsList-from_slice}
+use Rattle.std.proofs.lemmas.Iterator.Search.{position_from_yields_List}
+use Rattle.book.specs.Book.{no_open, is_open}
+use Rattle.book.proofs.Lists.{found_row}
 use Rattle.book.proofs.tables.free_place.Goals as goal
 
-pub loop-q-init : goal.loop-q-init
-loop-q-init c = (omega arith, (λ j h. absurd (omega arith)))
-
-pub bounds-places-q : goal.bounds-places-q
-bounds-places-q c = omega arith
-
-pub returns-then-o-eq0 : goal.returns-then-o-eq0
-returns-then-o-eq0 c = is-first width _ c.loop-q.q (omega arith) c.loop-q.invariant.1 (λ h. rw (eq-eqb _ 0 c.if-o-eq0.true))
-
-pub loop-q-smaller : goal.loop-q-smaller
-loop-q-smaller c = omega arith
-
-pub loop-q-preserved : goal.loop-q-preserved
-loop-q-preserved c = (omega arith, below_more _ _ c.loop-q.invariant.1 (rw (ne_eqb _ 0 c.if-o-eq0.false)))
-
 pub returns : goal.returns
-returns c = is-first width _ c.loop-q.q (omega arith) c.loop-q.invariant.1 (λ h. absurd (omega arith))
+returns c =
+    let at = position_from_yields_List (λ o. not (is_open o)) _ _ c.position.result c.position.ensures.ran (YieldsList-from_slice c.args.places cc) (λ x b q k. search (rules, tests)) in
+    found_row (λ o. not (is_open o)) no_open c.args.places (search rules) at c.unwrap_or.ensures

@@ -8,4 +8,4 @@ pub returns-then-is_sure : goal.returns-then-is_sure
 returns-then-is_sure c = none-in-set width (item_depends width c.args.x) (c.is_sure.ensures c.if-is_sure.true)
 
 pub returns : goal.returns
-returns c = either-set width c.args.x c.places-held.ensures c.places-pending.ensures
+returns c = either-set width c.args.x c.places.ensures c.places-2.ensures

@@ -1,12 +1,11 @@
--- An idle record names none.
-use borrow.Author.Tests.{eq-eqb, ne_eqb}
+use borrow.Author.Rules.{rules}
 use Rattle.book.specs.Book.{record_on}
 use Rattle.book.proofs.tables.record_on.Goals as goal
 
-pub returns-then-r-eq0 : goal.returns-then-r-eq0
+pub returns-then-r-eq-IDLE : goal.returns-then-r-eq-IDLE
 unfolding record_on
-returns-then-r-eq0 c = rw (eq-eqb _ 0 c.if-r-eq0.true)
+returns-then-r-eq-IDLE c = search rules
 
-pub returns : goal.returns
+pub returns-else-r-eq-IDLE : goal.returns-else-r-eq-IDLE
 unfolding record_on
-returns c = rw (ne_eqb _ 0 c.if-r-eq0.false)
+returns-else-r-eq-IDLE c = search rules

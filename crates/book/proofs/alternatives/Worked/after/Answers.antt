@@ -2,35 +2,18 @@
 use Rattle.book.specs.Book.{most_items}
 use Rattle.book.specs.States.{steps_of}
 use Rattle.book.proofs.Naming.{inside-more}
-use Rattle.book.proofs.Working.{no_room, covers-granted, covers-declined}
+use Rattle.book.proofs.Working.{no_room, covers_more}
 use Rattle.book.proofs.alternatives.Worked.after.Goals as goal
 
 pub run-end-requires : goal.run-end-requires
 run-end-requires c = inside-more c.args.count most_items c.requires.0 (steps_of c.args.p) c.requires.1
 
-pub joined_in-spread-requires : goal.joined_in-spread-requires
-joined_in-spread-requires c = c.requires.0
-
-pub returns-then-end-eq0 : goal.returns-then-end-eq0
-returns-then-end-eq0 c =
+pub returns-in_err-new-clause-covers : goal.returns-in_err-new-clause-covers
+returns-in_err-new-clause-covers c b k e s h covers condition starts =
     let a = c.args in
-    let pre = c.requires in
-    let spread = c.joined_in-spread in record {
-      covered_value = c.union-covered.ensures;
-      covers = λ b k e s h covers condition starts. (
-        (λ f. covers-granted b (steps_of a.p) s (rw e pre.1) k h covers a.start.state starts c.run-end.ensures condition spread.result (rw e spread.ensures.fits_value) (rw e (spread.ensures.rows_after f)) f c.union-covered.ensures c.if-end-eq0.true),
-        (λ f. no_room b (steps_of a.p) s (rw e pre.1) k h covers a.start.state starts c.run-end.ensures condition spread.result (rw e spread.ensures.fits_value) f),
-      );
-    }
+    rw c.from_residual.ensures (no_room b (steps_of a.p) s (rw e c.requires.1) k h covers a.start.state starts c.run-end.ensures.answer c.run-end.ensures.values condition (rw e c.in_err-new.ensures.fits_value))
 
-pub returns : goal.returns
-returns c =
+pub returns-clause-covers : goal.returns-clause-covers
+returns-clause-covers c b k e s h covers condition starts =
     let a = c.args in
-    let pre = c.requires in
-    let spread = c.joined_in-spread in record {
-      covered_value = c.union-covered.ensures;
-      covers = λ b k e s h covers condition starts. (
-        (λ f. covers-declined b (steps_of a.p) s (rw e pre.1) k h covers a.start.state starts c.run-end.ensures condition spread.result (rw e spread.ensures.fits_value) (rw e (spread.ensures.rows_after f)) f c.union-covered.ensures c.if-end-eq0.false),
-        (λ f. no_room b (steps_of a.p) s (rw e pre.1) k h covers a.start.state starts c.run-end.ensures condition spread.result (rw e spread.ensures.fits_value) f),
-      );
-    }
+    covers_more b (steps_of a.p) s (rw e c.requires.1) k h covers a.start.state starts c.run-end.ensures.answer c.run-end.ensures.values condition (rw e c.in_ok-new.ensures.rows_after) c.union.ensures c.is_ok-grants.ensures.value

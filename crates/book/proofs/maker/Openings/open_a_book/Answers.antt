@@ -1,18 +1,13 @@
--- The counts, then each item.
-use mathlib.Core.Path.{sym, ◌∙◌}
-use borrow.Author.Tests.{not-true, not-false}
+use borrow.Author.Rules.{rules}
+use borrow.Author.Tests.{tests}
+use Rattle.book.proofs.Making.{openings-count}
 use Rattle.book.specs.Open.{good_opening}
-use Rattle.book.proofs.Making.{Held, openings-count}
 use Rattle.book.proofs.maker.Openings.open_a_book.Goals as goal
 
-pub returns-then-not-good_counts : goal.returns-then-not-good_counts
+pub returns-then-good_counts : goal.returns-then-good_counts
 unfolding good_opening
-returns-then-not-good_counts c =
-    let held : Held c.args.self = record { values = _; own = c.well_formed.0 } in
-    rw (openings-count held c.requires, sym c.good_counts.ensures ∙ not-true _ c.if-not-good_counts.true-raw)
+returns-then-good_counts c = let count = openings-count (record { values = _; own = c.well_formed.0 }) c.requires in search (rules, tests)
 
-pub returns : goal.returns
+pub returns-else-good_counts : goal.returns-else-good_counts
 unfolding good_opening
-returns c =
-    let held : Held c.args.self = record { values = _; own = c.well_formed.0 } in
-    c.are_good.ensures ∙ rw (openings-count held c.requires, sym c.good_counts.ensures ∙ not-false _ c.if-not-good_counts.false-raw)
+returns-else-good_counts c = let count = openings-count (record { values = _; own = c.well_formed.0 }) c.requires in search (rules, tests)

@@ -1,6 +1,5 @@
 -- The loop's invariant: the first i rows are filled.
 use mathlib.Core.Path.{◌≡◌}
-use Prim.Native.Nat.{◌-◌, ◌≤◌}
 use Rattle.conditions.specs.Places.{places}
 use Rattle.book.specs.Book.{most_items, no_item}
 use Rattle.book.specs.Open.{opened_item}
@@ -8,7 +7,4 @@ use Rattle.book.proofs.Filling.{filled_upto}
 use Rattle.book.proofs.maker.Openings.rows.Given as goal
 
 abbrev pub invariant-loop-i : goal.invariant-loop-i
-invariant-loop-i l = (l.i ≤ l.n) × (l.items ≡ filled_upto (opened_item places) no_item most_items l.i l.self.items)
-
-abbrev pub decreases-loop-i : goal.decreases-loop-i
-decreases-loop-i l = l.n - l.i
+invariant-loop-i l = l.items ≡ filled_upto (opened_item places) no_item most_items l.i l.self.items

@@ -1,28 +1,12 @@
-use mathlib.Core.Path.{refl, sym, ◌∙◌}
-use native.Mathlib.Numerals.{add-one}
-use native.Mathlib.Omega.{arith}
-use lib.ListN.{drop_of_length-le}
+use borrow.Author.Rules.{rules}
+use borrow.Author.Tests.{tests}
+use mathlib.Core.Path.{◌∙◌}
+use Rattle.std.proofs.lemmas.Iterator.{YieldsList-from_slice}
+use Rattle.std.proofs.lemmas.Iterator.Search.{any_from_yields_List}
+use Rattle.book.specs.Begin.{outside}
 use Rattle.book.specs.States.{steps_of}
-use Rattle.book.proofs.Reading.{steps-more}
+use Rattle.book.proofs.Reading.{some-step}
 use Rattle.book.proofs.program.Program.is_outside.Goals as goal
 
-pub loop-i-init : goal.loop-i-init
-loop-i-init c = refl
-
-pub offset_bounds-self-i : goal.offset_bounds-self-i
-offset_bounds-self-i c = record { fits = omega (arith, c.len-n.ensures.upper_bound) }
-
-pub bounds-self-i : goal.bounds-self-i
-bounds-self-i c = omega (arith, c.len-n.ensures.upper_bound)
-
-pub returns-then-is_outside : goal.returns-then-is_outside
-returns-then-is_outside c = rw (steps-more c.args.self c.loop-i.i (omega (arith, c.len-n.ensures.value)), sym c.is_outside.ensures ∙ c.if-is_outside.true) at c.loop-i.invariant
-
-pub loop-i-smaller : goal.loop-i-smaller
-loop-i-smaller c = omega arith
-
-pub loop-i-preserved : goal.loop-i-preserved
-loop-i-preserved c = rw add-one (rw (steps-more c.args.self c.loop-i.i (omega (arith, c.len-n.ensures.value)), sym c.is_outside.ensures ∙ c.if-is_outside.false) at c.loop-i.invariant)
-
 pub returns : goal.returns
-returns c = rw (drop_of_length-le (steps_of c.args.self) {i = c.loop-i.i} (omega (arith, c.len-n.ensures.value))) at c.loop-i.invariant
+returns c = any_from_yields_List (outside c.args.count) _ _ _ c.any.ensures.ran (YieldsList-from_slice (steps_of c.args.self) cc) (λ x b q k. search (rules, tests)) ∙ some-step (outside c.args.count) (steps_of c.args.self)

@@ -1,8 +1,8 @@
 -- The condition is put where there is room for it.
+use mathlib.Core.Path.{sym}
 use native.Mathlib.Omega.{arith}
-use Rattle.conditions.specs.Places.{places}
-use Rattle.conditions.specs.Text.{number_at, condition_text}
-use Rattle.conditions.proofs.Putting.{fits, refused, accepted}
+use Rattle.std.proofs.lemmas.Grind.{common_steps}
+use Rattle.conditions.proofs.Putting.{refused, accepted}
 use Rattle.conditions.proofs.condition.Condition.write_text.Goals as goal
 
 pub returns-then-not-room : goal.returns-then-not-room
@@ -10,10 +10,11 @@ returns-then-not-room c =
     let both = refused _ _ _ c.text_len.ensures.value c.room.ensures c.if-not-room.true-raw in
     record { value = both.0; buf_after = both.1 }
 
-pub put_condition-requires : goal.put_condition-requires
-put_condition-requires c = omega (arith, fits c.args.buf.now c.args.at (condition_text places (number_at c.args.numbers) c.args.self.0) c.text_len.ensures.value c.room.ensures c.if-not-room.false-raw)
+pub returns-clause-value : goal.returns-clause-value
+returns-clause-value c = (accepted c.text_len.ensures.value c.room.ensures c.if-not-room.false-raw c.put_condition.ensures.put.put).0
 
-pub returns : goal.returns
-returns c =
-    let both = accepted c.text_len.ensures.value c.room.ensures c.if-not-room.false-raw c.put_condition.ensures.put in
-    record { value = both.0; buf_after = both.1 }
+pub returns-clause-buf_after : goal.returns-clause-buf_after
+returns-clause-buf_after c =
+    let is = (accepted c.text_len.ensures.value c.room.ensures c.if-not-room.false-raw c.put_condition.ensures.put.put).1 in
+    let lent = sym c.put_condition.ensures.put.lent in
+    grind (arith, common_steps)
