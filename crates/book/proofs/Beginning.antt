@@ -1,6 +1,6 @@
 -- A begun book, as the code has it.
-use mathlib.Core.Path.{◌≡◌, refl, sym, ap, ap₂, ◌∙◌}
-use mathlib.Core.Bool.{Bool, true, false, not, cond, true≢false}
+use mathlib.Core.Path.{◌≡◌, refl, ap, ap₂, ◌∙◌}
+use mathlib.Core.Bool.{Bool, true, false, not, cond}
 use mathlib.Core.List.{List, [], ◌∷◌}
 use Prim.Native.Nat.{ℕ, zero, suc, ◌+◌, ◌≤◌, ◌<◌}
 use native.Mathlib.Omega.{arith}
@@ -9,8 +9,8 @@ use lib.ListN.{get_or, set}
 use Rattle.conditions.specs.Sets.{member, set_of}
 use Rattle.conditions.proofs.Laws.Sets.{member-set_of}
 use Rattle.polyvalues.specs.declared.polyvalue.Polyvalue.{Polyvalue}
-use Rattle.book.specs.declared.Answer.{Answer}
-use Rattle.book.specs.declared.Answer.TheVariants.{NotIdle, AllOpen, NumbersGiven, TooManyValues}
+use Rattle.book.specs.declared.Refusal.{Refusal}
+use Rattle.book.specs.declared.Refusal.TheVariants.{NotIdle, AllOpen, NumbersGiven, TooManyValues}
 use Rattle.book.specs.declared.Begun.{Begun}
 use Rattle.book.specs.declared.Book.{Book}
 use Rattle.book.specs.declared.Item.{Item}
@@ -55,14 +55,10 @@ begun-is w b xs {s = s} few en es er eq =
     (λ d h x. ap₂ (λ (t : Bool) (n : ℕ). cond t (begin_record n) x) (ap (λ (u : ℕ). member u d) es ∙ member-set_of most_districts (touches_district b xs) d (omega arith)) one) in
     λ k. record { last = record { 0 = one k }; districts = (en k).districts; records = (er ∙ alike) k; count = (en k).count; items = (en k).items; «open» = set (en k).«open» (eq k) (record { number = record { 0 = one k }; touched = es k; ready = 0; gave = 0; decision = 0 }) }
 
--- where there are not too many values, all alternatives are worked out
-pub all-worked : (w : ℕ) (b : Book) (xs : List Step) (t : Worked) → (t.fits ≡ true → WorkedOut w b xs t) → (t.fits ≡ false → too_many w b xs ≡ true) → too_many w b xs ≡ false → WorkedOut w b xs t
-all-worked w b xs t fits over few = by_cases t.fits fits (λ e. absurd (true≢false (sym (over e) ∙ few)))
-
 -- ---- its answer, for a sound book and a good program whose items are in the table
 
 -- the tests that are left: 5, 6, 7, 8
-abbrev pub later : ℕ → Book → List Step → List (Bool × Answer)
+abbrev pub later : ℕ → Book → List Step → List (Bool × Refusal)
 later w b xs = (some_busy b xs, NotIdle) ∷ (not (ltb (free_place w b) w), AllOpen) ∷ (not (ltb b.last.0 last_number), NumbersGiven) ∷ (too_many w b xs, TooManyValues) ∷ []
 
 pub begin-later : (w : ℕ) (b : Book) (bytes : List ℕ) {xs : List Step} {r : Begun} → sound w b ≡ true → bad_program bytes ≡ false → steps bytes ≡ xs → some_step (outside b.count) xs ≡ false

@@ -3,7 +3,7 @@ use mathlib.Core.Path.{◌≡◌}
 use mathlib.Core.Bool.{true}
 use Prim.Native.Nat.{ℕ, ◌≤◌, ◌<◌}
 use native.Mathlib.Nat.{lt_of_lt_of_le}
-use Rattle.book.specs.declared.Answer.TheVariants.{Accepted}
+use Rattle.std.specs.Prelude.{Ok}
 use Rattle.book.specs.declared.Book.{Book}
 use Rattle.book.specs.declared.Done.{Done}
 use Rattle.book.specs.Book.{most_districts, most_items}
@@ -12,7 +12,7 @@ use Rattle.book.proofs.Laws.Sound.{test-sound}
 
 -- an accepted event
 abbrev pub accepts : Book → Done
-accepts b = record { answer = Accepted; book = b }
+accepts b = record { answer = Ok tt; book = b }
 
 -- a book with the counts of a sound one
 pub few : (w : ℕ) (b : Book) {after is : Book} → sound w b ≡ true → after ≡ is → is.districts ≡ b.districts → is.count ≡ b.count

@@ -13,8 +13,7 @@ use Rattle.std.specs.Result.{is_ok}
 use Rattle.std.proofs.Common.{Some, None, Ok, Err}
 use Rattle.std.proofs.lemmas.Option.{none-some, same_Some}
 use Rattle.conditions.proofs.Laws.Below.{by_cases}
-use Rattle.polyvalues.specs.declared.value.Added.TheVariants.{Value, Declined}
-use Rattle.polyvalues.specs.Values.{in_range, below, sum, sum_as}
+use Rattle.polyvalues.specs.Values.{in_range, below, sum}
 use Rattle.book.specs.declared.Step.{Step}
 use Rattle.book.specs.declared.state.State.{State}
 use Rattle.book.specs.Book.{most_items}
@@ -59,18 +58,18 @@ after-past x s l inside i h = after-other x (state_of s) i (names-past most_item
 
 -- ---- a sum that an item takes
 
-pub summed : (a b v : ℤ) → Value v ≡ sum_as (sum a b) → (in_range (a +ℤ b) ≡ true) × (v ≡ a +ℤ b)
+pub summed : (a b v : ℤ) → Some v ≡ sum a b → (in_range (a +ℤ b) ≡ true) × (v ≡ a +ℤ b)
 unfolding sum
 summed a b v e =
     by_cases (in_range (a +ℤ b))
-    (λ t. (t, let is : Value v ≡ Value (a +ℤ b) = rw t at e in cc))
-    (λ t. let never : Value v ≡ Declined = rw t at e in let z : ◌≡◌ {A = ℕ} 0 1 = cc in absurd (omega arith))
+    (λ t. (t, let is : Some v ≡ Some (a +ℤ b) = rw t at e in cc))
+    (λ t. let never : Some v ≡ None = rw t at e in cc)
 
-pub not-summed : (a b : ℤ) → Declined ≡ sum_as (sum a b) → in_range (a +ℤ b) ≡ false
+pub not-summed : (a b : ℤ) → None ≡ sum a b → in_range (a +ℤ b) ≡ false
 unfolding sum
 not-summed a b e =
     by_cases (in_range (a +ℤ b))
-    (λ t. let never : Declined ≡ Value (a +ℤ b) = rw t at e in let z : ◌≡◌ {A = ℕ} 0 1 = cc in absurd (omega arith))
+    (λ t. let never : None ≡ Some (a +ℤ b) = rw t at e in cc)
     (λ t. t)
 
 module _ (s : State) (i : ℕ) (z : ℤ) where

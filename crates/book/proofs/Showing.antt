@@ -7,18 +7,18 @@ use native.Mathlib.Omega.{arith}
 use lib.ListN.{length, get_or-map}
 use borrow.Author.Tests.{lt-ltb, le-ltb}
 use Rattle.conditions.specs.declared.place.TransactionNumber.{TransactionNumber}
-use Rattle.conditions.specs.declared.text.Written.TheVariants.{To, NoRoom}
 use Rattle.conditions.specs.Places.{places as width}
 use Rattle.conditions.specs.Text.{number_at}
-use Rattle.conditions.specs.Written.{room, answer, written}
+use Rattle.conditions.specs.Written.{no_room, room, answer, written}
 use Rattle.conditions.proofs.Laws.Below.{by_cases}
 use Rattle.polyvalues.specs.declared.polyvalue.Polyvalue.{Polyvalue}
 use Rattle.polyvalues.specs.Text.{line_text}
 use Rattle.polyvalues.specs.Polyvalues.{in_use}
-use Rattle.book.specs.declared.Answer.TheVariants.{Accepted, NoItem, Unsound, ShortBuffer}
+use Rattle.std.specs.Prelude.{Result, Ok, Err}
+use Rattle.book.specs.declared.Refusal.{Refusal}
+use Rattle.book.specs.declared.Refusal.TheVariants.{NoItem, Unsound, ShortBuffer}
 use Rattle.book.specs.declared.Book.{Book}
 use Rattle.book.specs.declared.Open.{Open}
-use Rattle.book.specs.declared.Shown.{Shown}
 use Rattle.book.specs.Answers.{first_of}
 use Rattle.book.specs.Book.{no_open}
 use Rattle.book.specs.SoundTest.{sound}
@@ -34,33 +34,33 @@ line-is p places e =
     ap (λ (n : ℕ → ℕ). line_text width n (in_use p)) (ap number_at e ∙ tags)
 
 -- it was written, or there was too little room
-pub was-written : (l t : List ℕ) {end : ℕ} → To end ≡ answer l 0 t → record { answer = Accepted; end = end } ≡ line_shown l t
+pub was-written : (l t : List ℕ) {end : ℕ} → Ok end ≡ answer l 0 t → Ok end ≡ line_shown l t
 unfolding answer
 was-written l t {end} e =
     by_cases (room l 0 t)
-    (λ k. let to : To end ≡ To (0 + length t) = rw k at e in let same : end ≡ 0 + length t = cc in let plain : end ≡ length t = omega arith in rw k (λ j. record { answer = Accepted; end = plain j }))
-    (λ k. let none : To end ≡ NoRoom = rw k at e in let z : ◌≡◌ {A = ℕ} 0 1 = cc in absurd (omega arith))
+    (λ k. let to : Ok end ≡ Ok (0 + length t) = rw k at e in let same : end ≡ 0 + length t = cc in let plain : end ≡ length t = omega arith in rw k (ap Ok plain))
+    (λ k. let none : Ok end ≡ Err no_room = rw k at e in let z : ◌≡◌ {A = ℕ} 0 1 = cc in absurd (omega arith))
 
-pub was-short : (l t : List ℕ) → NoRoom ≡ answer l 0 t → record { answer = ShortBuffer; end = 0 } ≡ line_shown l t
+pub was-short : (l t : List ℕ) → Err no_room ≡ answer l 0 t → Err ShortBuffer ≡ line_shown l t
 unfolding answer
 was-short l t e =
     by_cases (room l 0 t)
-    (λ k. let some : NoRoom ≡ To _ = rw k at e in let z : ◌≡◌ {A = ℕ} 0 1 = cc in absurd (omega arith))
+    (λ k. let some : Err no_room ≡ Ok _ = rw k at e in let z : ◌≡◌ {A = ℕ} 0 1 = cc in absurd (omega arith))
     (λ k. rw k)
 
 -- ---- the answers
 
 module _ (b : Book) (i : ℕ) (l : List ℕ) where
-  pub unsound-shown : sound width b ≡ false → (record { answer = Unsound; end = 0 } ≡ show width b i l) × (l ≡ shown width b i l)
+  pub unsound-shown : sound width b ≡ false → (Err Unsound ≡ show width b i l) × (l ≡ shown width b i l)
   unfolding show show_answer shown first_of
   unsound-shown s = (rw s, rw s)
 
   module _ (s : sound width b ≡ true) where
-    pub none-shown : b.count ≤ i → (record { answer = NoItem; end = 0 } ≡ show width b i l) × (l ≡ shown width b i l)
+    pub none-shown : b.count ≤ i → (Err NoItem ≡ show width b i l) × (l ≡ shown width b i l)
     unfolding show show_answer shown first_of
     none-shown h = let past = le-ltb i b.count h in (rw (s, past), rw (s, past))
 
-    pub item-shown : {r : Shown} {m : List ℕ} → i < b.count → r ≡ line_shown l (held_line width b i) → m ≡ written l 0 (held_line width b i)
+    pub item-shown : {r : Result ℕ Refusal} {m : List ℕ} → i < b.count → r ≡ line_shown l (held_line width b i) → m ≡ written l 0 (held_line width b i)
         → (r ≡ show width b i l) × (m ≡ shown width b i l)
     unfolding show show_answer shown first_of written
     item-shown h e f =

@@ -1,6 +1,6 @@
 -- Begin's work as the code does it: alternative by alternative, item by item.
 use mathlib.Core.Path.{◌≡◌, refl, sym, ap, ap₂, ◌∙◌}
-use mathlib.Core.Bool.{Bool, true, false, not, ◌&&◌, ◌||◌, true≢false, or-true, or-false}
+use mathlib.Core.Bool.{Bool, true, false, not, ◌&&◌, ◌||◌, true≢false, or-true, not-not}
 use mathlib.Core.List.{List, []}
 use Prim.Native.Nat.{ℕ, suc, ◌^◌, ◌≤◌, ◌<◌}
 use native.Mathlib.Omega.{arith}
@@ -10,34 +10,33 @@ use lib.ListN.{length, get_or, set, length-set, get_or-replicate}
 use lib.Seq.{get_or-set_same, get_or-set_other}
 use borrow.Author.Count.{below_more}
 use borrow.Author.Tests.{eq-eqb, ne_eqb, lt-ltb, ltb-true, ltb-false, not-false}
+use Rattle.std.specs.Prelude.{Some, None, is_some}
 use Rattle.conditions.specs.declared.condition.Condition.{Condition}
 use Rattle.conditions.specs.Below.{all, first}
 use Rattle.conditions.specs.Sets.{member}
 use Rattle.conditions.specs.Places.{places}
 use Rattle.conditions.specs.Conditions.{number, full, union, intersection, complement, lowest}
-use Rattle.conditions.proofs.Laws.Below.{by_cases, all-at, all_more, all-fails, all-not, none_any, any_of, first-le, first_passes, before-first}
+use Rattle.conditions.proofs.Laws.Below.{by_cases, all_more, all-fails, all-not, none_any, any_of, first-le, first_passes, before-first}
 use Rattle.conditions.proofs.Laws.Sets.{member-none, same-members}
 use Rattle.conditions.proofs.Laws.Conditions.{member-full, member_union, member-complement, full-lt, union-lt}
 use Rattle.std.specs.Result.{is_ok}
 use Rattle.std.proofs.Common.{Result}
 use Rattle.polyvalues.specs.declared.polyvalue.Pair.{Pair}
 use Rattle.polyvalues.specs.declared.polyvalue.Polyvalue.{Polyvalue}
-use Rattle.polyvalues.specs.declared.polyvalue.Joined.{Joined}
 use Rattle.polyvalues.specs.Pairs.{assignments, applying}
-use Rattle.polyvalues.specs.Polyvalues.{most_pairs, in_use, packed, fitted}
+use Rattle.polyvalues.specs.Polyvalues.{most_pairs, in_use, packed, fitting}
 use Rattle.polyvalues.specs.Simplify.{join, canon_over, canon}
 use Rattle.polyvalues.specs.Operations.{together}
 use Rattle.polyvalues.proofs.Laws.Applying.{applying-value}
 use Rattle.polyvalues.proofs.Laws.Canon.{over_none, over-full}
 use Rattle.polyvalues.proofs.Laws.Packed.{in_use-packed, sound-well_formed}
 use Rattle.polyvalues.proofs.Laws.Room.{over-count}
-use Rattle.polyvalues.proofs.Inserting.{fits-yes, fits-no}
+use Rattle.polyvalues.proofs.Inserting.{fits-yes, is_none-full}
 use Rattle.book.specs.declared.Book.{Book}
 use Rattle.book.specs.declared.Step.{Step}
 use Rattle.book.specs.declared.state.State.{State}
 use Rattle.book.specs.declared.program.Declined.{Declined}
 use Rattle.book.specs.declared.alternatives.Alternative.{Alternative}
-use Rattle.book.specs.declared.alternatives.Spread.{Spread}
 use Rattle.book.specs.declared.alternatives.Worked.{Worked}
 use Rattle.book.specs.Book.{most_items, void, item_at}
 use Rattle.book.specs.Programs.{takes, declined, run, touches, some_step}
@@ -90,7 +89,7 @@ module _ (b : Book) (xs : List Step) (a k : ℕ) (most : b.count ≤ most_items)
 -- those below k have been joined in
 pub record Joining (xs : List Step) (s : State) (c : ℕ) (new : List Polyvalue) (k : ℕ) (now : List Polyvalue) : Type 0 where
   pub long : length now ≡ most_items
-  pub fits : all k (λ i. (row_after places xs s c new i).fits) ≡ true
+  pub fits : all k (λ i. is_some (row_after places xs s c new i)) ≡ true
   pub done : RowsAfter places xs s c new k now
   pub rest : (i : ℕ) → k ≤ i → get_or now i void ≡ get_or new i void
 
@@ -99,23 +98,23 @@ module _ (xs : List Step) (s : State) (c : ℕ) (new : List Polyvalue) where
   unfolding all
   joining-start l = record { long = l; fits = refl; done = λ i h. absurd (omega arith); rest = λ i h. refl }
 
-  module _ (k : ℕ) (h : k < most_items) {now : List Polyvalue} (now-at : Joining xs s c new k now) {r : Joined} (e : r ≡ joined_row places (touches xs k) (state_of s k) c (get_or now k void)) where
-    row : r ≡ row_after places xs s c new k
-    row = e ∙ ap (joined_row places (touches xs k) (state_of s k) c) (now-at.rest k (omega arith))
+  module _ (k : ℕ) (h : k < most_items) {now : List Polyvalue} (now-at : Joining xs s c new k now) where
+    row : joined_row places (touches xs k) (state_of s k) c (get_or now k void) ≡ row_after places xs s c new k
+    row = ap (joined_row places (touches xs k) (state_of s k) c) (now-at.rest k (omega arith))
 
-    pub joining-next : r.fits ≡ true → Joining xs s c new (suc k) (set now k r.polyvalue)
-    joining-next f =
+    pub joining-next : {q : Polyvalue} → Some q ≡ joined_row places (touches xs k) (state_of s k) c (get_or now k void) → Joining xs s c new (suc k) (set now k q)
+    joining-next {q} e =
         record {
-          long = length-set now k r.polyvalue ∙ now-at.long;
-          fits = all_more k (λ i. (row_after places xs s c new i).fits) now-at.fits (sym (ap (λ (j : Joined). j.fits) row) ∙ f);
-          done = λ i l. below_more (λ i. get_or (set now k r.polyvalue) i void ≡ (row_after places xs s c new i).polyvalue) k
-              (λ i l. get_or-set_other now k i r.polyvalue void (λ q. omega arith) ∙ now-at.done i l)
-              (get_or-set_same now k r.polyvalue void (omega (arith, now-at.long)) ∙ ap (λ (j : Joined). j.polyvalue) row) i (omega arith);
-          rest = λ i l. get_or-set_other now k i r.polyvalue void (λ q. omega arith) ∙ now-at.rest i (omega arith);
+          long = length-set now k q ∙ now-at.long;
+          fits = all_more k (λ i. is_some (row_after places xs s c new i)) now-at.fits (ap is_some (sym (e ∙ row)));
+          done = λ i l. below_more (λ i. Some (get_or (set now k q) i void) ≡ row_after places xs s c new i) k
+              (λ i l. ap Some (get_or-set_other now k i q void (λ z. omega arith)) ∙ now-at.done i l)
+              (ap Some (get_or-set_same now k q void (omega (arith, now-at.long))) ∙ e ∙ row) i (omega arith);
+          rest = λ i l. get_or-set_other now k i q void (λ z. omega arith) ∙ now-at.rest i (omega arith);
         }
 
-    pub joining-fails : (count : ℕ) → k < count → r.fits ≡ false → false ≡ all count (λ i. (row_after places xs s c new i).fits)
-    joining-fails count l f = sym (all-fails count (λ i. (row_after places xs s c new i).fits) k l (sym (ap (λ (j : Joined). j.fits) row) ∙ f))
+    pub joining-fails : (count : ℕ) → k < count → None ≡ joined_row places (touches xs k) (state_of s k) c (get_or now k void) → false ≡ all count (λ i. is_some (row_after places xs s c new i))
+    joining-fails count l e = sym (all-fails count (λ i. is_some (row_after places xs s c new i)) k l (ap is_some (sym (e ∙ row))))
 
 -- ---- one more alternative
 
@@ -144,59 +143,47 @@ module _ (b : Book) (xs : List Step) (sure : sound places b ≡ true) (inside : 
   abbrev more : ℕ → List Pair
   more i = canon_over places (λ c. run xs (held_at b c) i) (union places (number t.covered) (block places b xs a))
 
-  row_after-fitted : (i : ℕ) → touches xs i ≡ true → {c : ℕ} → c ≡ block places b xs a → row_after places xs after c t.new i ≡ fitted (get_or t.new i void) (more i)
+  row_after-fitted : (i : ℕ) → touches xs i ≡ true → {c : ℕ} → c ≡ block places b xs a → row_after places xs after c t.new i ≡ fitting (more i)
   unfolding joined_row
   row_after-fitted i u {c} k =
-      rw u (ap (fitted (get_or t.new i void)) (
+      rw u (ap fitting (
       ap₂ (λ (v : ℤ) (ps : List Pair). join places v c ps) (end-value i u) (ap in_use (so_far.rows i (table i u) u) ∙ in_use-packed (canon_over places (λ c. run xs (held_at b c) i) (number t.covered)))
       ∙ ap (λ (m : ℕ). join places (run xs (held_at b a) i) m (canon_over places (λ c. run xs (held_at b c) i) (number t.covered))) k
       ∙ join-block places b xs (sound-one b sure) table a ha i (number t.covered) u))
 
-  module _ {c : ℕ} (k : c ≡ block places b xs a) (r : Spread) (fits : r.fits ≡ all b.count (λ i. (row_after places xs after c t.new i).fits)) where
+  module _ {c : ℕ} (k : c ≡ block places b xs a) where
     -- where there is no room for some of an item's results, there is none for all of them
-    over : (i : ℕ) → touches xs i ≡ true → (row_after places xs after c t.new i).fits ≡ false → too_many places b xs ≡ true
+    over : (i : ℕ) → touches xs i ≡ true → is_some (row_after places xs after c t.new i) ≡ false → too_many places b xs ≡ true
     unfolding too_many results
     over i u f =
-        let many : most_pairs < length (more i) = fits-no (get_or t.new i void) (more i) (row_after-fitted i u k) f in
+        let many : most_pairs < length (more i) = is_none-full (more i) (rw (row_after-fitted i u k) at f) in
         let all-many : most_pairs < together (in_use (item_at b i).held) (canon places (λ c. run xs (held_at b c) i)) =
         omega (arith, over-count places (λ c. run xs (held_at b c) i) (union places (number t.covered) (block places b xs a)) (in_use (item_at b i).held)) in
         any_of b.count _ i (table i u) (rw u (lt-ltb most_pairs _ all-many))
 
-    pub no_room : r.fits ≡ false → too_many places b xs ≡ true
+    pub no_room : false ≡ all b.count (λ i. is_some (row_after places xs after c t.new i)) → too_many places b xs ≡ true
     unfolding joined_row
     no_room f =
-        let found = all-not b.count (λ i. (row_after places xs after c t.new i).fits) (sym fits ∙ f) in
+        let found = all-not b.count (λ i. is_some (row_after places xs after c t.new i)) (sym f) in
         by_cases (touches xs found.0) (λ u. over found.0 u found.2) (λ u. absurd (true≢false (rw u at found.2)))
 
-    covers_more : RowsAfter places xs after c t.new b.count r.new → r.fits ≡ true → {v : Condition} → number v ≡ union places (number t.covered) c → {d g : Bool}
-        → d ≡ (some_declines places b xs (number t.covered) || declines_at b xs a) → g ≡ (some_grants places b xs (number t.covered) || not (declines_at b xs a))
-        → Covers places b xs (record { fits = r.fits; declines = d; grants = g; covered = v; new = r.new })
-    covers_more rows f {v} n ds gs =
+    pub covers_more : {new : List Polyvalue} → RowsAfter places xs after c t.new b.count new → {v : Condition} → number v ≡ union places (number t.covered) c → {g : Bool} → g ≡ is_ok e
+        → Covers places b xs (record { declines = t.declines || not g; grants = t.grants || g; covered = v; new = new })
+    covers_more rows {v} n {g} is =
         record {
           conditions = rw n (union-lt places (number t.covered) c);
           rows = λ i l u.
-              rows i l
-              ∙ (fits-yes (get_or t.new i void) (more i) (row_after-fitted i u k) (all-at b.count (λ i. (row_after places xs after c t.new i).fits) (sym fits ∙ f) i l)).0
+              (fits-yes (more i) (rows i l ∙ row_after-fitted i u k)).0
               ∙ ap (λ (m : ℕ). packed (canon_over places (λ c. run xs (held_at b c) i) m)) (sym all-covered);
-          declines = ds ∙ sym (declines-more places b xs (sound-one b sure) table a ha (number t.covered)) ∙ ap (some_declines places b xs) (sym all-covered);
-          grants = gs ∙ sym (grants-more places b xs (sound-one b sure) table a ha (number t.covered)) ∙ ap (some_grants places b xs) (sym all-covered);
+          declines = ap₂ ◌||◌ so_far.declines at_a ∙ sym (declines-more places b xs (sound-one b sure) table a ha (number t.covered)) ∙ ap (some_declines places b xs) (sym all-covered);
+          grants = ap₂ ◌||◌ so_far.grants (sym (not-not g) ∙ ap not at_a) ∙ sym (grants-more places b xs (sound-one b sure) table a ha (number t.covered)) ∙ ap (some_grants places b xs) (sym all-covered);
         }
       where
         all-covered : number v ≡ union places (number t.covered) (block places b xs a)
         all-covered = n ∙ ap (union places (number t.covered)) k
 
-    module _ (rows : RowsAfter places xs after c t.new b.count r.new) (f : r.fits ≡ true) {v : Condition} (n : number v ≡ union places (number t.covered) c) where
-      pub covers-granted : is_ok e ≡ true → Covers places b xs (record { fits = r.fits; declines = t.declines; grants = true; covered = v; new = r.new })
-      covers-granted d =
-          let at_a : declines_at b xs a ≡ false = ap not (sym end-well ∙ d) in
-          covers_more rows f n (so_far.declines ∙ sym (or-false _) ∙ ap (λ (x : Bool). some_declines places b xs (number t.covered) || x) (sym at_a))
-          (sym (or-true (some_grants places b xs (number t.covered))) ∙ ap (λ (x : Bool). some_grants places b xs (number t.covered) || not x) (sym at_a))
-
-      pub covers-declined : is_ok e ≡ false → Covers places b xs (record { fits = r.fits; declines = true; grants = t.grants; covered = v; new = r.new })
-      covers-declined d =
-          let at_a : declines_at b xs a ≡ true = ap not (sym end-well ∙ d) in
-          covers_more rows f n (sym (or-true (some_declines places b xs (number t.covered))) ∙ ap (λ (x : Bool). some_declines places b xs (number t.covered) || x) (sym at_a))
-          (so_far.grants ∙ sym (or-false _) ∙ ap (λ (x : Bool). some_grants places b xs (number t.covered) || not x) (sym at_a))
+        at_a : not g ≡ declines_at b xs a
+        at_a = ap not (is ∙ end-well)
 
 -- ---- all alternatives
 
@@ -220,7 +207,6 @@ lowest-past s n h e =
 
 -- t covers the assignments before n
 pub record Covering (b : Book) (xs : List Step) (n : ℕ) (t : Worked) : Type 0 where
-  pub fits : t.fits ≡ true
   pub covers : Covers places b xs t
   pub before : (j : ℕ) → j < n → member (number t.covered) j ≡ true
 
@@ -229,7 +215,6 @@ module _ (b : Book) (xs : List Step) (sure : sound places b ≡ true) where
   unfolding nothing_worked some_declines some_grants
   covering-start =
       record {
-        fits = refl;
         covers = record {
           conditions = omega arith;
           rows = λ i h u. get_or-replicate most_items i (packed []) void (omega (arith, (test-sound places b sure).few_items)) ∙ ap packed (sym (over_none places (λ a. run xs (held_at b a) i)));
@@ -253,8 +238,8 @@ module _ (b : Book) (xs : List Step) (sure : sound places b ≡ true) where
       pub covering-rises : n < l
       covering-rises = omega (arith, is-next, lowest-past (number r.covered) n h covered-now)
 
-      pub covering-next : r.fits ≡ true → Covers places b xs r → Covering b xs l r
-      covering-next f c = record { fits = f; covers = c; before = λ j k. before-lowest (number r.covered) j (omega (arith, is-next, k)) }
+      pub covering-next : Covers places b xs r → Covering b xs l r
+      covering-next c = record { covers = c; before = λ j k. before-lowest (number r.covered) j (omega (arith, is-next, k)) }
 
   -- when none is left
   pub covering-all : (n : ℕ) → 2 ^ places ≤ n → {t : Worked} → Covering b xs n t → WorkedOut places b xs t

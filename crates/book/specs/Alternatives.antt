@@ -1,12 +1,11 @@
 -- "all alternatives worked out" (demand 2; paper 3.2): the assignments fall into blocks under which every touched item has one held value, and a program is run once for each block.
-use Rattle.std.specs.Prelude.{◌≡◌, Bool, true, false, not, ◌&&◌, cond, List, [], ℕ, zero, suc, ◌^◌, ◌<◌, ℤ, get_or, replicate}
+use Rattle.std.specs.Prelude.{◌≡◌, Bool, true, false, not, ◌&&◌, cond, List, [], Option, Some, ℕ, zero, suc, ◌^◌, ◌<◌, ℤ, get_or, replicate}
 use Rattle.conditions.specs.Below.{any}
 use Rattle.conditions.specs.Sets.{member}
 use Rattle.conditions.specs.Conditions.{number, of_number, full, intersection}
 use Rattle.polyvalues.specs.declared.polyvalue.Polyvalue.{Polyvalue}
-use Rattle.polyvalues.specs.declared.polyvalue.Joined.{Joined}
 use Rattle.polyvalues.specs.Pairs.{assignments, applying}
-use Rattle.polyvalues.specs.Polyvalues.{in_use, packed, fitted}
+use Rattle.polyvalues.specs.Polyvalues.{in_use, packed, fitting}
 use Rattle.polyvalues.specs.Simplify.{join, canon_over}
 use Rattle.book.specs.declared.Book.{Book}
 use Rattle.book.specs.declared.Step.{Step}
@@ -47,16 +46,16 @@ abbrev pub StartsAs : Book → List Step → ℕ → ℕ → State → Type 0
 StartsAs b xs a k s = (i : ℕ) → i < k → touches xs i ≡ true → state_of s i ≡ held_at b a i
 
 -- the value v under the condition c joined into the polyvalue q of an item, if the item is touched
-unfoldable pub joined_row : ℕ → Bool → ℤ → ℕ → Polyvalue → Joined
-joined_row w touched v c q = cond touched (fitted q (join w v c (in_use q))) (record { fits = true; polyvalue = q })
+unfoldable pub joined_row : ℕ → Bool → ℤ → ℕ → Polyvalue → Option Polyvalue
+joined_row w touched v c q = cond touched (fitting (join w v c (in_use q))) (Some q)
 
 -- item i's row of new, after the state s under the condition c
-abbrev pub row_after : ℕ → List Step → State → ℕ → List Polyvalue → ℕ → Joined
+abbrev pub row_after : ℕ → List Step → State → ℕ → List Polyvalue → ℕ → Option Polyvalue
 row_after w xs s c new i = joined_row w (touches xs i) (state_of s i) c (get_or new i void)
 
 -- now has these rows, for the items below k
 abbrev pub RowsAfter : ℕ → List Step → State → ℕ → List Polyvalue → ℕ → List Polyvalue → Type 0
-RowsAfter w xs s c new k now = (i : ℕ) → i < k → get_or now i void ≡ (row_after w xs s c new i).polyvalue
+RowsAfter w xs s c new k now = (i : ℕ) → i < k → Some (get_or now i void) ≡ row_after w xs s c new i
 
 -- the alternatives that t covers are worked out
 pub record Covers (w : ℕ) (b : Book) (xs : List Step) (t : Worked) : Type 0 where
@@ -67,7 +66,7 @@ pub record Covers (w : ℕ) (b : Book) (xs : List Step) (t : Worked) : Type 0 wh
 
 -- none is worked out yet
 unfoldable pub nothing_worked : Worked
-nothing_worked = record { fits = true; declines = false; grants = false; covered = of_number 0; new = replicate most_items (packed []) }
+nothing_worked = record { declines = false; grants = false; covered = of_number 0; new = replicate most_items (packed []) }
 
 -- what the answer says where some decline, and where some do not: "1 if no assignment declines, 0 if all do, 2 otherwise"
 abbrev pub grant_of : Bool → Bool → ℕ

@@ -9,14 +9,13 @@ use Rattle.polyvalues.specs.Pairs.{at}
 use Rattle.polyvalues.specs.Polyvalues.{most_pairs, in_use, packed}
 use Rattle.polyvalues.specs.Simplify.{canon}
 use Rattle.polyvalues.specs.Operations.{together}
-use Rattle.book.specs.declared.Answer.{Answer}
-use Rattle.book.specs.declared.Answer.TheVariants.{NoItem, BadProgram, NotIdle, AllOpen, NumbersGiven, TooManyValues, Unsound}
+use Rattle.book.specs.declared.Refusal.TheVariants.{NoItem, BadProgram, NotIdle, AllOpen, NumbersGiven, TooManyValues, Unsound}
 use Rattle.book.specs.declared.Begun.{Begun}
 use Rattle.book.specs.declared.Book.{Book}
 use Rattle.book.specs.declared.Item.{Item}
 use Rattle.book.specs.declared.Open.{Open}
 use Rattle.book.specs.declared.Step.{Step}
-use Rattle.book.specs.Answers.{accepted, first_of}
+use Rattle.book.specs.Answers.{Answer, accepted, first_of}
 use Rattle.book.specs.Rows.{rows}
 use Rattle.book.specs.Book.{most_districts, last_number, item_at, item_on, free_place}
 use Rattle.book.specs.Programs.{steps, is_copy, declined, run, some_step, touches}

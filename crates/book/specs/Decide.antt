@@ -2,12 +2,11 @@
 use Rattle.std.specs.Prelude.{Bool, not, ◌&&◌, [], ◌∷◌, ℕ, set}
 use Rattle.conditions.specs.Below.{any}
 use Rattle.conditions.specs.Sets.{member}
-use Rattle.book.specs.declared.Answer.{Answer}
-use Rattle.book.specs.declared.Answer.TheVariants.{NotOpen, AlreadyDecided, NotReady, Unsound}
+use Rattle.book.specs.declared.Refusal.TheVariants.{NotOpen, AlreadyDecided, NotReady, Unsound}
 use Rattle.book.specs.declared.Book.{Book}
 use Rattle.book.specs.declared.Open.{Open}
 use Rattle.book.specs.declared.Done.{Done}
-use Rattle.book.specs.Answers.{first_of}
+use Rattle.book.specs.Answers.{Answer, first_of}
 use Rattle.book.specs.Book.{place_of, with_open, open_of}
 use Rattle.book.specs.Forget.{decided}
 use Rattle.book.specs.Transactions.{unsound, not_open, done}

@@ -1,12 +1,11 @@
 -- "Marked examples": 1 to 9 of document 01, on books that are opened and then worked by the calls themselves; crate demands lists all ten.
-use Rattle.std.specs.Prelude.{◌≡◌, List, [], ◌∷◌, ◌++◌, ℕ, ℤ, pos, negsuc}
+use Rattle.std.specs.Prelude.{◌≡◌, List, [], ◌∷◌, ◌++◌, ℕ, ℤ, pos, negsuc, Ok}
 use Rattle.conditions.specs.Places.{places}
 use Rattle.conditions.specs.Conditions.{intersection, complement, completed}
 use Rattle.polyvalues.specs.declared.polyvalue.Pair.{Pair}
 use Rattle.polyvalues.specs.Pairs.{pair, certain}
 use Rattle.polyvalues.specs.Polyvalues.{in_use}
 use Rattle.book.specs.declared.Book.{Book}
-use Rattle.book.specs.declared.Answer.TheVariants.{Accepted}
 use Rattle.book.specs.Book.{item_at, open_at}
 use Rattle.book.specs.Open.{opened}
 use Rattle.book.specs.Begin.{begin}
@@ -89,7 +88,7 @@ both c d = intersection places c d
 
 -- an accepted begin with this grant and these pending pairs of item 0
 pub record Gives (b : Book) (program : List ℕ) (granted : ℕ) (ps : List Pair) : Type 0 where
-  pub answer : (begin places b program).answer ≡ Accepted
+  pub answer : (begin places b program).answer ≡ Ok tt
   pub grant : (begin places b program).grant ≡ granted
   pub pending : in_use (item_at (begin places b program).book 0).pending ≡ ps
 

@@ -1,13 +1,12 @@
 -- "Give up. From computing: pending becomes held, the district is idle and is marked as having given up. From waiting: each item becomes its pending value where the
 -- transaction completes and its held value where it aborts; idle." (document 01, Events)
 use Rattle.std.specs.Prelude.{Bool, not, cond, [], ◌∷◌, ℕ, set}
-use Rattle.book.specs.declared.Answer.{Answer}
-use Rattle.book.specs.declared.Answer.TheVariants.{NoDistrict, NotOpen, NotOnIt, Unsound}
+use Rattle.book.specs.declared.Refusal.TheVariants.{NoDistrict, NotOpen, NotOnIt, Unsound}
 use Rattle.book.specs.declared.Book.{Book}
 use Rattle.book.specs.declared.Item.{Item}
 use Rattle.book.specs.declared.Open.{Open}
 use Rattle.book.specs.declared.Done.{Done}
-use Rattle.book.specs.Answers.{first_of}
+use Rattle.book.specs.Answers.{Answer, first_of}
 use Rattle.book.specs.Rows.{rows}
 use Rattle.book.specs.Book.{record_at, place_of, including, with_records, with_items, with_open, open_of}
 use Rattle.book.specs.Records.{computing_on, busy_on, give_up_record}

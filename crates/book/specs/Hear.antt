@@ -1,13 +1,12 @@
 -- "Hear, at any district, also one not touched. If it is busy on that transaction it installs pending (completed) or drops it (aborted) and is idle. Then every held and
 -- pending polyvalue there is reduced: its value under an assignment is the old one with that place set to the outcome." (document 01, Events)
 use Rattle.std.specs.Prelude.{Bool, not, cond, [], ◌∷◌, ℕ, eqb, set}
-use Rattle.book.specs.declared.Answer.{Answer}
-use Rattle.book.specs.declared.Answer.TheVariants.{NoDistrict, NotOpen, NotDecided, Unsound}
+use Rattle.book.specs.declared.Refusal.TheVariants.{NoDistrict, NotOpen, NotDecided, Unsound}
 use Rattle.book.specs.declared.Book.{Book}
 use Rattle.book.specs.declared.Item.{Item}
 use Rattle.book.specs.declared.Open.{Open}
 use Rattle.book.specs.declared.Done.{Done}
-use Rattle.book.specs.Answers.{first_of}
+use Rattle.book.specs.Answers.{Answer, first_of}
 use Rattle.book.specs.Rows.{rows}
 use Rattle.book.specs.Book.{record_at, place_of, with_records, with_items, open_of}
 use Rattle.book.specs.Records.{hear_record}

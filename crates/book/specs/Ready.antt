@@ -1,11 +1,10 @@
 -- "Ready. Computing to waiting." (document 01, Events)
 use Rattle.std.specs.Prelude.{not, [], ◌∷◌, ℕ, set}
-use Rattle.book.specs.declared.Answer.{Answer}
-use Rattle.book.specs.declared.Answer.TheVariants.{NoDistrict, NotOpen, NotOnIt, Unsound}
+use Rattle.book.specs.declared.Refusal.TheVariants.{NoDistrict, NotOpen, NotOnIt, Unsound}
 use Rattle.book.specs.declared.Book.{Book}
 use Rattle.book.specs.declared.Open.{Open}
 use Rattle.book.specs.declared.Done.{Done}
-use Rattle.book.specs.Answers.{first_of}
+use Rattle.book.specs.Answers.{Answer, first_of}
 use Rattle.book.specs.Book.{record_at, place_of, including, with_records, with_open, open_of}
 use Rattle.book.specs.Records.{computing_on, ready_record}
 use Rattle.book.specs.Transactions.{unsound, not_open, no_district, done}

@@ -1,9 +1,8 @@
 -- "Events on a transaction: 4, 1, then 9, or 10, 11, or 12." (document 01, Answer numbers): what these events share.
 use Rattle.std.specs.Prelude.{Bool, not, cond, ℕ, ltb}
-use Rattle.book.specs.declared.Answer.{Answer}
 use Rattle.book.specs.declared.Book.{Book}
 use Rattle.book.specs.declared.Done.{Done}
-use Rattle.book.specs.Answers.{accepted}
+use Rattle.book.specs.Answers.{Answer, accepted}
 use Rattle.book.specs.Book.{place_of}
 use Rattle.book.specs.SoundTest.{sound}
 use Rattle.book.specs.Forget.{forget}

@@ -1,5 +1,5 @@
 // Begin's work: the program is run once for each block of assignments, and the results are joined.
-ghost use Rattle.std.specs.Prelude.{◌≡◌, true, false, ◌&&◌, ℕ, ◌^◌, ◌≤◌, ◌<◌, ltb};
+ghost use Rattle.std.specs.Prelude.{◌≡◌, true, false, ◌&&◌, ℕ, ◌^◌, ◌≤◌, ◌<◌, ltb, is_some, IfSome, MatchOption};
 ghost use Rattle.conditions.specs.Below.{all};
 ghost use Rattle.conditions.specs.Places.{places};
 ghost use Rattle.conditions.specs.Conditions.{number, union, intersection};
@@ -19,7 +19,7 @@ use crate::state::{State, Value};
 use crate::tables::ITEMS;
 use crate::{Book, Item};
 use conditions::{ASSIGNMENTS, Condition};
-use polyvalues::{Joined, PAIRS, Pair, Polyvalue};
+use polyvalues::{PAIRS, Pair, Polyvalue};
 
 // A block of assignments, and the state that the program is run on under each of them.
 #[derive(Clone, Copy)]
@@ -69,67 +69,45 @@ fn alternative_under(b: Book, p: Program, assignment: usize) -> Alternative
     done
 }
 
-// The new polyvalues of the items, and whether there was room for them.
-#[derive(Clone, Copy)]
-struct Spread {
-    fits: bool,
-    new: [Polyvalue; ITEMS],
-}
-
-// One item's new polyvalue with a result joined in, if the item is touched.
-fn joined_row(old: Polyvalue, touched: bool, value: Value, condition: Condition) -> Joined
+// One item's new polyvalue with a result joined in, if the item is touched and there is room for it.
+fn joined_row(
+    old: Polyvalue,
+    touched: bool,
+    value: Value,
+    condition: Condition,
+) -> Option<Polyvalue>
     ensures { result ≡ joined_row places touched value.0 (number condition) old }
 {
     if touched {
-        let v = value.0;
-        return old.join(v, condition);
+        return old.join(value.0, condition).ok();
     }
-    Joined {
-        fits: true,
-        polyvalue: old,
-    }
+    Some(old)
 }
 
-// The results of a run, which stand under the condition, joined in for each touched item.
+// The results of a run, which stand under the condition, joined in for each touched item, if there is
+// room for them.
 fn joined_in(
     new: [Polyvalue; ITEMS],
     count: usize,
     p: Program,
     s: State,
     condition: Condition,
-) -> Spread
+) -> Option<[Polyvalue; ITEMS]>
     requires { count ≤ most_items }
-    ensures fits_value { result.fits ≡ all count (λ i. (row_after places (steps_of p) s (number condition) new i).fits) }
-    ensures rows_after { result.fits ≡ true → RowsAfter places (steps_of p) s (number condition) new count result.new }
+    ensures fits_value { is_some result ≡ all count (λ i. is_some (row_after places (steps_of p) s (number condition) new i)) }
+    ensures rows_after { IfSome result (λ now. RowsAfter places (steps_of p) s (number condition) new count now) }
 {
     let mut now = new;
-    let mut i: usize = 0;
-    while i < count {
-        let old = now[i];
-        let value = s.values[i];
-        let touched = p.touches(i);
-        let next = joined_row(old, touched, value, condition);
-        if !next.fits {
-            return Spread {
-                fits: false,
-                new: now,
-            };
-        }
-        let q = next.polyvalue;
-        now[i] = q;
-        i += 1;
+    for i in 0..count {
+        now[i] = joined_row(now[i], p.touches(i), s.values[i], condition)?;
     }
-    Spread {
-        fits: true,
-        new: now,
-    }
+    Some(now)
 }
 
-// What is worked out so far: whether there was room for it, whether the program declines and whether
-// it does not, under which assignments, and the new polyvalues of the touched items.
+// What is worked out so far: whether the program declines and whether it does not, under which
+// assignments, and the new polyvalues of the touched items.
 #[derive(Clone, Copy)]
 pub struct Worked {
-    pub fits: bool,
     pub declines: bool,
     pub grants: bool,
     pub covered: Condition,
@@ -137,38 +115,23 @@ pub struct Worked {
 }
 
 impl Worked {
-    // The same, with one block more: the one that an assignment of a book of so many items starts with.
-    fn after(self, count: usize, p: Program, start: Alternative) -> Worked
+    // The same, with one block more, if there is room for it: the block that an assignment of a book of
+    // so many items starts with.
+    fn after(self, count: usize, p: Program, start: Alternative) -> Option<Worked>
         requires { (count ≤ most_items) × (some_step (outside count) (steps_of p) ≡ false) }
-        ensures covered_value { number result.covered ≡ union places (number self.covered) (number start.condition) }
-        ensures covers { (b : Book) (a : ℕ) → b.count ≡ count → sound places b ≡ true → a < 2 ^ places → Covers places b (steps_of p) self → number start.condition ≡ block places b (steps_of p) a → StartsAs b (steps_of p) a b.count start.state → (result.fits ≡ true → Covers places b (steps_of p) result) × (result.fits ≡ false → too_many places b (steps_of p) ≡ true) }
+        ensures covered_value { IfSome result (λ w. number w.covered ≡ union places (number self.covered) (number start.condition)) }
+        ensures covers { (b : Book) (a : ℕ) → b.count ≡ count → sound places b ≡ true → a < 2 ^ places → Covers places b (steps_of p) self → number start.condition ≡ block places b (steps_of p) a → StartsAs b (steps_of p) a b.count start.state → MatchOption result (too_many places b (steps_of p) ≡ true) (λ w. Covers places b (steps_of p) w) }
     {
-        let condition = start.condition;
         let mut state = start.state;
         let end = p.run(&mut state);
-        let old = self.new;
-        let spread = joined_in(old, count, p, state, condition);
-        let fits = spread.fits;
-        let new = spread.new;
-        let covered = self.covered.union(condition);
-        if end.is_ok() {
-            let declines = self.declines;
-            return Worked {
-                fits,
-                declines,
-                grants: true,
-                covered,
-                new,
-            };
-        }
-        let grants = self.grants;
-        Worked {
-            fits,
-            declines: true,
-            grants,
-            covered,
+        let grants = end.is_ok();
+        let new = joined_in(self.new, count, p, state, start.condition)?;
+        Some(Worked {
+            declines: self.declines | !grants,
+            grants: self.grants | grants,
+            covered: self.covered.union(start.condition),
             new,
-        }
+        })
     }
 }
 
@@ -178,7 +141,6 @@ fn nothing_worked() -> Worked
 {
     let none = Polyvalue::nothing();
     Worked {
-        fits: true,
         declines: false,
         grants: false,
         covered: Condition::EMPTY,
@@ -186,28 +148,20 @@ fn nothing_worked() -> Worked
     }
 }
 
-// All alternatives worked out, or that there is no room for them.
-pub(crate) fn worked_out(b: Book, p: Program) -> Worked
+// All alternatives worked out, if there is room for them.
+pub(crate) fn worked_out(b: Book, p: Program) -> Option<Worked>
     requires b_value { sound places b ≡ true }
     requires p_value { some_step (outside b.count) (steps_of p) ≡ false }
-    ensures worked_out { result.fits ≡ true → WorkedOut places b (steps_of p) result }
-    ensures p_value_2 { result.fits ≡ false → too_many places b (steps_of p) ≡ true }
+    ensures { MatchOption result (too_many places b (steps_of p) ≡ true) (λ w. WorkedOut places b (steps_of p) w) }
 {
-    let count = b.count;
     let mut done = nothing_worked();
     let mut next: usize = 0;
     while next < ASSIGNMENTS {
         let start = alternative_under(b, p, next);
-        let more = done.after(count, p, start);
-        if !more.fits {
-            return more;
-        }
-        done = more;
-        let covered = more.covered;
-        let left = covered.complement();
-        next = left.lowest();
+        done = done.after(b.count, p, start)?;
+        next = done.covered.complement().lowest();
     }
-    done
+    Some(done)
 }
 
 // Whether a touched item's old and new values are more than there is room for.
@@ -223,23 +177,13 @@ fn over_room(x: Item, new: Polyvalue, touched: bool) -> bool
 // Whether those of some item are.
 pub(crate) fn too_many(b: Book, p: Program, w: Worked) -> bool
     requires count_le_most_items { b.count ≤ most_items }
-    requires worked_out { w.fits ≡ true → WorkedOut places b (steps_of p) w }
-    requires p_value { w.fits ≡ false → too_many places b (steps_of p) ≡ true }
+    requires worked_out { WorkedOut places b (steps_of p) w }
     ensures { result ≡ too_many places b (steps_of p) }
 {
-    if !w.fits {
-        return true;
-    }
-    let n = b.count;
-    let mut i: usize = 0;
-    while i < n {
-        let x = b.items[i];
-        let new = w.new[i];
-        let touched = p.touches(i);
-        if over_room(x, new, touched) {
+    for i in 0..b.count {
+        if over_room(b.items[i], w.new[i], p.touches(i)) {
             return true;
         }
-        i += 1;
     }
     false
 }

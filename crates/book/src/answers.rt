@@ -1,32 +1,24 @@
 // The customer's number for each answer.
 ghost use Rattle.std.specs.Prelude.{◌≡◌};
-ghost use Rattle.book.specs.Answers.{answer_number};
+ghost use Rattle.book.specs.Answers.{refusal_number, answer_number};
 
-use crate::Answer;
+use crate::{Answer, Refusal};
 
-impl Answer {
+impl Refusal {
     // Its number.
     pub fn number(self) -> u8
-        ensures { result ≡ answer_number self }
+        ensures { result ≡ refusal_number self }
     {
-        match self {
-            Answer::Accepted => 0,
-            Answer::NoDistrict => 1,
-            Answer::NoItem => 2,
-            Answer::BadProgram => 3,
-            Answer::NotOpen => 4,
-            Answer::NotIdle => 5,
-            Answer::AllOpen => 6,
-            Answer::NumbersGiven => 7,
-            Answer::TooManyValues => 8,
-            Answer::NotOnIt => 9,
-            Answer::AlreadyDecided => 10,
-            Answer::NotReady => 11,
-            Answer::NotDecided => 12,
-            Answer::Malformed => 13,
-            Answer::TooLong => 14,
-            Answer::Unsound => 15,
-            Answer::ShortBuffer => 16,
-        }
+        self as u8
+    }
+}
+
+// The number of an answer: 0 where the call is accepted.
+pub fn answer_number(answer: Answer) -> u8
+    ensures { result ≡ answer_number answer }
+{
+    match answer {
+        Ok(()) => 0,
+        Err(refusal) => refusal.number(),
     }
 }

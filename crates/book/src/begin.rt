@@ -2,7 +2,6 @@
 ghost use Rattle.std.specs.Prelude.{◌≡◌, true, false, cond, List, ℕ, ◌<◌, ◌≤◌};
 ghost use Rattle.conditions.specs.Places.{places};
 ghost use Rattle.conditions.specs.Sets.{set_of};
-ghost use Rattle.book.specs.declared.Answer.TheVariants.{Accepted, TooManyValues};
 ghost use Rattle.book.specs.Book.{most_districts, most_items, last_number, free_place};
 ghost use Rattle.book.specs.Items.{becomes};
 ghost use Rattle.book.specs.States.{steps_of};
@@ -15,7 +14,7 @@ use crate::alternatives::{Worked, granted, too_many, worked_out};
 use crate::program::{Program, bad_program, read};
 use crate::tables::free_place;
 use crate::touched::{begun_records, some_busy, with_district};
-use crate::{Answer, Begun, Book, Item, Open};
+use crate::{Begun, Book, Item, Open, Refusal};
 use conditions::{PLACES, TransactionNumber};
 use polyvalues::Polyvalue;
 
@@ -70,11 +69,11 @@ fn begun(mut b: Book, p: Program, w: Worked, q: usize, set: u8) -> Book
 }
 
 // Refused: no number, no grant, the book as it came.
-fn refused(b: Book, answer: Answer) -> Begun
-    ensures { result ≡ record { answer = answer; number = record { 0 = 0 }; grant = 0; book = b } }
+fn refused(b: Book, refusal: Refusal) -> Begun
+    ensures { result ≡ record { answer = Err refusal; number = record { 0 = 0 }; grant = 0; book = b } }
 {
     Begun {
-        answer,
+        answer: Err(refusal),
         number: TransactionNumber(0),
         grant: 0,
         book: b,
@@ -88,17 +87,19 @@ fn begin_at(b: Book, p: Program, q: usize, set: u8) -> Begun
     requires p_value { some_step (outside b.count) (steps_of p) ≡ false }
     requires q_value { (q ≡ free_place places b) × (q < places) × (b.last.0 < last_number) }
     requires set_value { set ≡ set_of most_districts (touches_district b (steps_of p)) }
-    ensures { result ≡ begins places (cond (too_many places b (steps_of p)) TooManyValues Accepted) b (steps_of p) }
+    ensures { result ≡ begins places (cond (too_many places b (steps_of p)) (Err Refusal.TooManyValues) (Ok tt)) b (steps_of p) }
 {
-    let w = worked_out(b, p);
+    let Some(w) = worked_out(b, p) else {
+        return refused(b, Refusal::TooManyValues);
+    };
     if too_many(b, p, w) {
-        return refused(b, Answer::TooManyValues);
+        return refused(b, Refusal::TooManyValues);
     }
     let grant = granted(w.declines, w.grants);
     let after = begun(b, p, w, q, set);
     let number = after.last;
     Begun {
-        answer: Answer::Accepted,
+        answer: Ok(()),
         number,
         grant,
         book: after,
@@ -125,13 +126,13 @@ fn begin_program(b: Book, p: Program) -> Begun
     let open = b.open;
     let q = free_place(open);
     if is_busy {
-        return refused(b, Answer::NotIdle);
+        return refused(b, Refusal::NotIdle);
     }
     if PLACES <= q {
-        return refused(b, Answer::AllOpen);
+        return refused(b, Refusal::AllOpen);
     }
     if NUMBERS <= b.last.0 {
-        return refused(b, Answer::NumbersGiven);
+        return refused(b, Refusal::NumbersGiven);
     }
     begin_at(b, p, q, set)
 }
@@ -142,14 +143,14 @@ impl Book {
         ensures { result ≡ begin places self bytes.now }
     {
         if !self.is_sound() {
-            return refused(self, Answer::Unsound);
+            return refused(self, Refusal::Unsound);
         }
         if bad_program(bytes) {
-            return refused(self, Answer::BadProgram);
+            return refused(self, Refusal::BadProgram);
         }
         let p = read(bytes);
         if p.is_outside(self.count) {
-            return refused(self, Answer::NoItem);
+            return refused(self, Refusal::NoItem);
         }
         begin_program(self, p)
     }

@@ -10,7 +10,7 @@ ghost use Rattle.book.specs.SoundTest.{sound};
 
 use crate::sets::has;
 use crate::tables::{FREE, item_depends, place_of, some_on};
-use crate::{Answer, Book, Done, Open};
+use crate::{Book, Done, Open, Refusal};
 use conditions::{PLACES, Place, TransactionNumber};
 
 // Whether the district is touched and has not reported ready.
@@ -72,33 +72,33 @@ impl Book {
     {
         if !self.is_sound() {
             return Done {
-                answer: Answer::Unsound,
+                answer: Err(Refusal::Unsound),
                 book: self,
             };
         }
         let q = place_of(self.open, n);
         if PLACES <= q {
             return Done {
-                answer: Answer::NotOpen,
+                answer: Err(Refusal::NotOpen),
                 book: self,
             };
         }
         let o = self.open[q];
         if o.decision != 0 {
             return Done {
-                answer: Answer::AlreadyDecided,
+                answer: Err(Refusal::AlreadyDecided),
                 book: self,
             };
         }
         if some_awaited(o, self.districts) {
             return Done {
-                answer: Answer::NotReady,
+                answer: Err(Refusal::NotReady),
                 book: self,
             };
         }
         let after = decided(self, q, 1);
         Done {
-            answer: Answer::Accepted,
+            answer: Ok(()),
             book: after,
         }
     }
@@ -109,27 +109,27 @@ impl Book {
     {
         if !self.is_sound() {
             return Done {
-                answer: Answer::Unsound,
+                answer: Err(Refusal::Unsound),
                 book: self,
             };
         }
         let q = place_of(self.open, n);
         if PLACES <= q {
             return Done {
-                answer: Answer::NotOpen,
+                answer: Err(Refusal::NotOpen),
                 book: self,
             };
         }
         let o = self.open[q];
         if o.decision != 0 {
             return Done {
-                answer: Answer::AlreadyDecided,
+                answer: Err(Refusal::AlreadyDecided),
                 book: self,
             };
         }
         let after = decided(self, q, 2);
         Done {
-            answer: Answer::Accepted,
+            answer: Ok(()),
             book: after,
         }
     }

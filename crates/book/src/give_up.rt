@@ -11,7 +11,7 @@ use crate::items::given_up;
 use crate::records::{busy_on, computing_on, rested};
 use crate::sets::including;
 use crate::tables::place_of;
-use crate::{Answer, Book, Done, Open};
+use crate::{Book, Done, Open, Refusal};
 use conditions::{PLACES, Place, TransactionNumber};
 
 // The transaction on which the district gave up before it was ready.
@@ -61,34 +61,34 @@ impl Book {
     {
         if !self.is_sound() {
             return Done {
-                answer: Answer::Unsound,
+                answer: Err(Refusal::Unsound),
                 book: self,
             };
         }
         let q = place_of(self.open, n);
         if PLACES <= q {
             return Done {
-                answer: Answer::NotOpen,
+                answer: Err(Refusal::NotOpen),
                 book: self,
             };
         }
         let i = d as usize;
         if self.districts <= i {
             return Done {
-                answer: Answer::NoDistrict,
+                answer: Err(Refusal::NoDistrict),
                 book: self,
             };
         }
         let r = self.records[i];
         if !busy_on(r, n) {
             return Done {
-                answer: Answer::NotOnIt,
+                answer: Err(Refusal::NotOnIt),
                 book: self,
             };
         }
         let after = gave_up(self, n, d, q, computing_on(r, n));
         Done {
-            answer: Answer::Accepted,
+            answer: Ok(()),
             book: forget(after),
         }
     }

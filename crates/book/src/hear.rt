@@ -8,7 +8,7 @@ use crate::forget::forget;
 use crate::items::heard as heard_item;
 use crate::records::heard as heard_record;
 use crate::tables::place_of;
-use crate::{Answer, Book, Done};
+use crate::{Book, Done, Refusal};
 use conditions::{PLACES, Place, TransactionNumber};
 
 // The district and its items have heard.
@@ -40,33 +40,33 @@ impl Book {
     {
         if !self.is_sound() {
             return Done {
-                answer: Answer::Unsound,
+                answer: Err(Refusal::Unsound),
                 book: self,
             };
         }
         let q = place_of(self.open, n);
         if PLACES <= q {
             return Done {
-                answer: Answer::NotOpen,
+                answer: Err(Refusal::NotOpen),
                 book: self,
             };
         }
         if self.districts <= d as usize {
             return Done {
-                answer: Answer::NoDistrict,
+                answer: Err(Refusal::NoDistrict),
                 book: self,
             };
         }
         let o = self.open[q];
         if o.decision == 0 {
             return Done {
-                answer: Answer::NotDecided,
+                answer: Err(Refusal::NotDecided),
                 book: self,
             };
         }
         let after = heard(self, n, d, Place(q), o.decision == 1);
         Done {
-            answer: Answer::Accepted,
+            answer: Ok(()),
             book: forget(after),
         }
     }

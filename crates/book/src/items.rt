@@ -45,8 +45,7 @@ fn split(x: Item, q: Place) -> Item
     requires { together (in_use x.pending) (in_use x.held) ≤ most_pairs }
     ensures { result ≡ split places q.0 x }
 {
-    let either = Polyvalue::select(q, x.pending, x.held);
-    let both = either.polyvalue;
+    let both = Polyvalue::select(q, x.pending, x.held).unwrap();
     Item {
         held: both,
         pending: both,

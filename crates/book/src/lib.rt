@@ -27,6 +27,7 @@ mod steps;
 mod tables;
 mod touched;
 
+pub use answers::answer_number;
 use conditions::{PLACES, TransactionNumber};
 pub use maker::{Openings, opened, zero_book};
 use polyvalues::Polyvalue;
@@ -84,10 +85,10 @@ pub struct Opening {
     pub value: i16,
 }
 
-#[derive(Clone, Copy)]
-pub enum Answer {
-    Accepted,
-    NoDistrict,
+// Why a call is refused, each with document 01's number.
+#[derive(Clone, Copy, Debug, PartialEq, Eq)]
+pub enum Refusal {
+    NoDistrict = 1,
     NoItem,
     BadProgram,
     NotOpen,
@@ -105,6 +106,9 @@ pub enum Answer {
     ShortBuffer,
 }
 
+// What a call answers: it is accepted, or refused.
+pub type Answer = Result<(), Refusal>;
+
 // What begin answers.
 #[derive(Clone, Copy)]
 pub struct Begun {
@@ -119,11 +123,4 @@ pub struct Begun {
 pub struct Done {
     pub answer: Answer,
     pub book: Book,
-}
-
-// What show answers, and where its line ends in the buffer: 0 where it is refused.
-#[derive(Clone, Copy)]
-pub struct Shown {
-    pub answer: Answer,
-    pub end: usize,
 }

@@ -8,7 +8,7 @@ ghost use Rattle.book.specs.Ready.{reported, readied, ready};
 use crate::records::{computing_on, readied as readied_record};
 use crate::sets::including;
 use crate::tables::place_of;
-use crate::{Answer, Book, Done, Open};
+use crate::{Book, Done, Open, Refusal};
 use conditions::{PLACES, TransactionNumber};
 
 // The transaction to which the district reported ready.
@@ -43,34 +43,34 @@ impl Book {
     {
         if !self.is_sound() {
             return Done {
-                answer: Answer::Unsound,
+                answer: Err(Refusal::Unsound),
                 book: self,
             };
         }
         let q = place_of(self.open, n);
         if PLACES <= q {
             return Done {
-                answer: Answer::NotOpen,
+                answer: Err(Refusal::NotOpen),
                 book: self,
             };
         }
         let i = d as usize;
         if self.districts <= i {
             return Done {
-                answer: Answer::NoDistrict,
+                answer: Err(Refusal::NoDistrict),
                 book: self,
             };
         }
         let r = self.records[i];
         if !computing_on(r, n) {
             return Done {
-                answer: Answer::NotOnIt,
+                answer: Err(Refusal::NotOnIt),
                 book: self,
             };
         }
         let after = readied(self, q, i);
         Done {
-            answer: Answer::Accepted,
+            answer: Ok(()),
             book: after,
         }
     }

@@ -4,8 +4,8 @@ ghost use Rattle.conditions.specs.Places.{places as place_count};
 ghost use Rattle.conditions.specs.Written.{written};
 ghost use Rattle.book.specs.Show.{line_of, line_shown, shown, show};
 
-use crate::{Answer, Book, Open, Shown};
-use conditions::{PLACES, TransactionNumber, Written};
+use crate::{Book, Open, Refusal};
+use conditions::{NoRoom, PLACES, TransactionNumber};
 use polyvalues::Polyvalue;
 
 // The number of the transaction at each place.
@@ -25,41 +25,30 @@ fn numbers_at(places: [Open; PLACES]) -> [TransactionNumber; PLACES]
 }
 
 // Writes the line of a polyvalue, where these transactions are open.
-fn write_held(held: Polyvalue, open: [Open; PLACES], buf: &mut [u8]) -> Shown
+fn write_held(held: Polyvalue, open: [Open; PLACES], buf: &mut [u8]) -> Result<usize, Refusal>
     ensures value { result ≡ line_shown buf.old (line_of place_count held «open») }
     ensures buf_after { buf.new ≡ written buf.old 0 (line_of place_count held «open») }
 {
     let numbers = numbers_at(open);
     match held.write_text(numbers, buf, 0) {
-        Written::To(end) => Shown {
-            answer: Answer::Accepted,
-            end,
-        },
-        Written::NoRoom => Shown {
-            answer: Answer::ShortBuffer,
-            end: 0,
-        },
+        Ok(end) => Ok(end),
+        Err(NoRoom) => Err(Refusal::ShortBuffer),
     }
 }
 
 impl Book {
-    // The call: the line of an item's held pairs is written at the buffer's start.
-    pub fn show(self, item: u8, buf: &mut [u8]) -> Shown
+    // The call: the line of an item's held pairs is written at the buffer's start, and it gives where
+    // that line ends.
+    pub fn show(self, item: u8, buf: &mut [u8]) -> Result<usize, Refusal>
         ensures value { result ≡ show place_count self item buf.old }
         ensures buf_after { buf.new ≡ shown place_count self item buf.old }
     {
         if !self.is_sound() {
-            return Shown {
-                answer: Answer::Unsound,
-                end: 0,
-            };
+            return Err(Refusal::Unsound);
         }
         let i = item as usize;
         if self.count <= i {
-            return Shown {
-                answer: Answer::NoItem,
-                end: 0,
-            };
+            return Err(Refusal::NoItem);
         }
         let x = self.items[i];
         let held = x.held;

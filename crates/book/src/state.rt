@@ -8,7 +8,7 @@ ghost use Rattle.book.specs.States.{state_of, state_rows, added, stepped};
 use crate::Step;
 use crate::steps::{Kind, numbered};
 use crate::tables::ITEMS;
-use polyvalues::{Added, below, sum};
+use polyvalues::{below, sum};
 
 // A value of an item.
 #[derive(Clone, Copy)]
@@ -37,8 +37,8 @@ impl State {
         ensures { result ≡ added (state_of self) item (old.0 +ℤ operand) }
     {
         match sum(old.0, operand) {
-            Added::Value(v) => Some(self.with(item, Value(v))),
-            Added::Declined => None,
+            Some(v) => Some(self.with(item, Value(v))),
+            None => None,
         }
     }
 

@@ -14,7 +14,6 @@ use Rattle.conditions.specs.Products.{agrees}
 use Rattle.conditions.proofs.Laws.Sets.{member-and, member-or, member-not, member-shr, member-shl, member-shl-below, member-mod, member-set_of-not, is-set_of, set_of-same, one_shl}
 use Rattle.conditions.proofs.Laws.Places.{place-lt, member-set, place_same, place_up, place_down, member-more}
 use Rattle.conditions.proofs.Laws.Conditions.{member-complement, member-completed}
-use Rattle.conditions.proofs.Laws.Products.{asks-not}
 
 -- ---- `c | d`, `c & d`, `!c`
 
@@ -69,13 +68,13 @@ tag-completed w i c z q e =
     (set_of-same (2 ^ w) (λ a. member c a && member (completed w i) a) (λ a. member c a && member a i)
     (λ a h. ap (λ (x : Bool). member c a && x) (member-completed w i a h)))
 
-pub tag-aborted : (w i c : ℕ) {d m o r : ℕ} → (d ≡ 0 → ⊥) → (d ≡ 1 → ⊥) → m ≡ completed w i → o ≡ complement w m → r ≡ intersection w c o
+pub tag-aborted : (w i c : ℕ) {d m o r : ℕ} → d ≡ 2 → m ≡ completed w i → o ≡ complement w m → r ≡ intersection w c o
     → r ≡ set_of (2 ^ w) (λ a. member c a && agrees d (member a i))
 unfolding intersection
-tag-aborted w i c {d} z n q s e =
-    e ∙ rw (s, q)
-    (set_of-same (2 ^ w) (λ a. member c a && member (others w i) a) (λ a. member c a && agrees d (member a i))
-    (λ a h. ap (λ (x : Bool). member c a && x) (member-others w i a h ∙ sym (asks-not d z n (member a i)))))
+tag-aborted w i c z q s e =
+    e ∙ rw (z, s, q)
+    (set_of-same (2 ^ w) (λ a. member c a && member (others w i) a) (λ a. member c a && not (member a i))
+    (λ a h. ap (λ (x : Bool). member c a && x) (member-others w i a h)))
 
 -- ---- `h | (h >> 2 ^ i)` with `h = c & m`
 

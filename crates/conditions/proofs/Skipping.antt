@@ -40,9 +40,9 @@ pub leaves-high : (i c : ℕ) {d s : ℕ} → s ≡ 2 ^ i → d ≡ 1 → (q : �
 leaves-high i c e z q t = ap (λ (m : ℕ). within i q (c / 2 ^ m)) e ∙ within-completed i q c (t ∙ z)
 
 -- an aborted one leaves the low half
-pub leaves-low : (w i c : ℕ) {d s : ℕ} → i < w → s ≡ 2 ^ i → (d ≡ 0 → ⊥) → (d ≡ 1 → ⊥) → (q : ℕ) → tag_at q i ≡ d
+pub leaves-low : (w i c : ℕ) {d s : ℕ} → i < w → s ≡ 2 ^ i → d ≡ 2 → (q : ℕ) → tag_at q i ≡ d
     → within i q (bit_and c (1 * 2 ^ s % 2 ^ 2 ^ w - 1)) ≡ within (suc i) q c
-leaves-low w i c h e z n q t = ap (within i q) (low_half w i c h e) ∙ within-aborted i q c (λ y. z (sym t ∙ y)) (λ y. n (sym t ∙ y))
+leaves-low w i c h e z q t = ap (within i q) (low_half w i c h e) ∙ within-aborted i q c (λ y. absurd (omega arith)) (λ y. absurd (omega arith))
 
 -- ---- a tag that no product within the set needs
 
@@ -93,6 +93,11 @@ rest-cut w c p k e walk =
 tag_is : (w c p k : ℕ) {i set rest scale : ℕ} → i ≡ suc k → Walk w c p i set rest scale → rest / (scale / 3) ≡ tag_at p k
 tag_is w c p k e walk =
     ap₂ ◌/◌ (rest-cut w c p k e walk) (scale-is k e walk.scaled) ∙ digits_div (tag_at p k) (mod-lt p (one-le-pow k 3 (zero-lt-suc 2)))
+
+-- a digit
+pub tag-below : (w c p k : ℕ) {i set rest scale : ℕ} → i ≡ suc k → Walk w c p i set rest scale → rest / (scale / 3) < 3
+unfolding tag_at
+tag-below w c p k e walk = rw (tag_is w c p k e walk) (mod-lt (p / 3 ^ k) (zero-lt-suc 2))
 
 -- the other by `%`
 rest-is : (w c p k : ℕ) {i set rest scale : ℕ} → i ≡ suc k → Walk w c p i set rest scale → rest % (scale / 3) ≡ p % 3 ^ k

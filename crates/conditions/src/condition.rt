@@ -1,13 +1,13 @@
 // A set of assignments, one bit for each.
-ghost use Rattle.std.specs.Prelude.{◌≡◌, ◌*◌, eqb};
-ghost use Rattle.conditions.specs.Sets.{digit, member, set_of};
+ghost use Rattle.std.specs.Prelude.{◌≡◌, eqb};
+ghost use Rattle.conditions.specs.Sets.{member, set_of};
 ghost use Rattle.conditions.specs.Places.{places};
 ghost use Rattle.conditions.specs.Conditions.{number, union, intersection, complement, empty, lowest, completed, selected, reduced, depends_on};
 
 use crate::place::{ASSIGNMENTS, PLACES, Place};
 
 // Bit n is 1 where the assignment n is a member.
-#[derive(Clone, Copy)]
+#[derive(Clone, Copy, Debug, PartialEq, Eq, Hash)]
 pub struct Condition(pub(crate) u64);
 
 // For each place, the assignments in which it is completed.
@@ -20,16 +20,6 @@ const COMPLETED: [u64; PLACES] = [
     0xffff_ffff_0000_0000,
 ];
 
-// The bit of a set's member, and nothing of what is no member.
-fn bit_if(bit: u8, is_in: bool) -> u8
-    ensures { result ≡ digit is_in * bit }
-{
-    if is_in {
-        return bit;
-    }
-    0
-}
-
 impl Condition {
     // The condition that always applies, and the one that never does.
     pub const FULL: Condition = Condition(0xffff_ffff_ffff_ffff);
@@ -40,17 +30,15 @@ impl Condition {
     pub fn contains(self, assignment: usize) -> bool
         ensures { result ≡ member (number self) assignment }
     {
-        if ASSIGNMENTS <= assignment {
-            return false;
-        }
-        (self.0 >> assignment) & 1 == 1
+        assignment < ASSIGNMENTS && (self.0 >> assignment) & 1 == 1
     }
 
     // Whether two conditions have the same members.
+    // kept: docs/PROMISES.md names `Condition::same` for equality, with its contract; `==` is derived.
     pub fn same(self, other: Condition) -> bool
         ensures { result ≡ eqb (number self) (number other) }
     {
-        self.0 == other.0
+        self == other
     }
 
     pub fn union(self, other: Condition) -> Condition
@@ -81,7 +69,7 @@ impl Condition {
     pub fn lowest(self) -> usize
         ensures { result ≡ lowest places (number self) }
     {
-        u64::trailing_zeros(self.0) as usize
+        self.0.trailing_zeros() as usize
     }
 
     // The assignments in which the place is completed.
@@ -127,7 +115,7 @@ impl Condition {
     pub fn depends(self, place: Place) -> bool
         ensures { result ≡ depends_on places (number self) place.0 }
     {
-        self.reduce(place, true).0 != self.reduce(place, false).0
+        self.reduce(place, true) != self.reduce(place, false)
     }
 
     // The set of the places that it depends on.
@@ -135,13 +123,8 @@ impl Condition {
         ensures { result ≡ set_of places (depends_on places (number self)) }
     {
         let mut set: u8 = 0;
-        let mut bit: u8 = 1;
-        let mut i: usize = 0;
-        while i < PLACES {
-            let is_in = self.depends(Place(i));
-            set += bit_if(bit, is_in);
-            bit += bit;
-            i += 1;
+        for i in 0..PLACES {
+            set += u8::from(self.depends(Place(i))) << i;
         }
         set
     }

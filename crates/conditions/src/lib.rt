@@ -14,4 +14,4 @@ mod text;
 pub use condition::Condition;
 pub use place::{ASSIGNMENTS, PLACES, Place, TransactionNumber};
 pub use product::Product;
-pub use text::{Written, decimal_len, room, write_decimal};
+pub use text::{NoRoom, decimal_len, room, write_decimal};

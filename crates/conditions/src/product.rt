@@ -1,10 +1,10 @@
-// Products of tags: a digit to the base 3 for each place, 0 where it is absent, 1 where it is to be
-// completed, 2 where it is to be aborted.
-ghost use Rattle.std.specs.Prelude.{◌≡◌, true, false, ◌&&◌, ℕ, suc, ◌+◌, ◌<◌, ◌≤◌, ◌^◌};
+// Products of tags: a digit to the base 3 for each place.
+ghost use Rattle.std.specs.Prelude.{◌≡◌, true, false, ◌&&◌, ℕ, suc, ◌+◌, ◌<◌, ◌≤◌, ◌^◌, MatchOption};
 ghost use Rattle.conditions.specs.Sets.{member, set_of};
 ghost use Rattle.conditions.specs.Places.{places};
 ghost use Rattle.conditions.specs.Conditions.{number};
 ghost use Rattle.conditions.specs.Products.{
+  tag_number,
   tag_at,
   agrees,
   allowed,
@@ -21,7 +21,7 @@ use crate::place::{PLACES, Place};
 use crate::table::ALLOWED;
 
 // A product, by its number. Digits past the last place say nothing.
-#[derive(Clone, Copy)]
+#[derive(Clone, Copy, Debug, PartialEq, Eq, PartialOrd, Ord, Hash)]
 pub struct Product(pub usize);
 
 // What a digit counts, by its place; the last one is the number of products.
@@ -34,18 +34,38 @@ pub(crate) fn power(i: usize) -> usize
     POWERS[i]
 }
 
-// The members of a set in which the place is as its tag asks.
-fn tagged(set: Condition, i: usize, tag: usize) -> Condition
-    ensures { number result ≡ set_of (2 ^ places) (λ a. member (number set) a && agrees tag (member a i)) }
-{
-    if tag == 0 {
-        return set;
+// What a product asks of a place.
+#[derive(Clone, Copy, Debug, PartialEq, Eq)]
+pub(crate) enum Tag {
+    Absent,
+    Completed,
+    Aborted,
+}
+
+impl Tag {
+    // The tag that a digit counts.
+    fn of(digit: usize) -> Tag
+        requires { digit < 3 }
+        ensures { tag_number result ≡ digit }
+    {
+        match digit {
+            0 => Tag::Absent,
+            1 => Tag::Completed,
+            _ => Tag::Aborted,
+        }
     }
-    let done = Condition::completed(Place(i));
-    if tag == 1 {
-        return set.intersection(done);
+}
+
+impl From<Tag> for usize {
+    ghost from_gives = { λ tag digit. digit ≡ tag_number tag };
+
+    fn from(tag: Tag) -> usize {
+        match tag {
+            Tag::Absent => 0,
+            Tag::Completed => 1,
+            Tag::Aborted => 2,
+        }
     }
-    set.intersection(done.complement())
 }
 
 impl Product {
@@ -67,11 +87,9 @@ impl Product {
     {
         let mut set = Condition::FULL;
         let mut rest = self.0;
-        let mut place: usize = 0;
-        while place < PLACES {
-            set = tagged(set, place, rest % 3);
+        for place in 0..PLACES {
+            set = set.tagged(Place(place), Tag::of(rest % 3));
             rest /= 3;
-            place += 1;
         }
         set
     }
@@ -84,12 +102,12 @@ impl Product {
         (allowed.0 & !c.0) == 0
     }
 
-    // What the place counts.
-    pub(crate) fn tag(self, i: usize) -> usize
+    // The tag of the place.
+    pub(crate) fn tag(self, i: usize) -> Tag
         requires { i < places }
-        ensures { result ≡ tag_at self.0 i }
+        ensures { tag_number result ≡ tag_at self.0 i }
     {
-        (self.0 / power(i)) % 3
+        Tag::of((self.0 / power(i)) % 3)
     }
 
     // Whether the place has no tag, or the product with that tag fewer is not within the condition.
@@ -97,11 +115,11 @@ impl Product {
         requires { i < places }
         ensures { result ≡ needed places self.0 (number c) i }
     {
-        let d = self.tag(i);
-        if d == 0 {
+        let tag = self.tag(i);
+        if tag == Tag::Absent {
             return true;
         }
-        let fewer = Product(self.0 - d * power(i));
+        let fewer = Product(self.0 - usize::from(tag) * power(i));
         !fewer.within(c)
     }
 
@@ -112,18 +130,27 @@ impl Product {
         if !self.within(c) {
             return false;
         }
-        let mut i: usize = 0;
-        while i < PLACES {
+        for i in 0..PLACES {
             if !self.needs(c, i) {
                 return false;
             }
-            i += 1;
         }
         true
     }
 }
 
 impl Condition {
+    // The members in which the place is as its tag asks.
+    fn tagged(self, place: Place, tag: Tag) -> Condition
+        ensures { number result ≡ set_of (2 ^ places) (λ a. member (number self) a && agrees (tag_number tag) (member a place.0)) }
+    {
+        match tag {
+            Tag::Absent => self,
+            Tag::Completed => self.intersection(Condition::completed(place)),
+            Tag::Aborted => self.intersection(Condition::completed(place).complement()),
+        }
+    }
+
     // The condition's next prime product from a number on; where there is none, the number of
     // products, or the number that it began from if that is past it.
     pub fn next_prime(self, from: Product) -> Product
@@ -135,63 +162,58 @@ impl Condition {
 
 // What a set of assignments to i + 1 places leaves to the first i of them, where the last one is as
 // its tag asks: the high half of the bits, the low half, or what is in both.
-fn narrowed(set: u64, i: usize, tag: usize) -> u64
+fn narrowed(set: u64, i: usize, tag: Tag) -> u64
     requires { i < places }
-    ensures { (q : ℕ) → tag_at q i ≡ tag → within i q result ≡ within (suc i) q set }
+    ensures { (q : ℕ) → tag_at q i ≡ tag_number tag → within i q result ≡ within (suc i) q set }
 {
     let bits = 1u64 << i;
     let done = set >> bits;
     let mask = (1u64 << bits) - 1;
     let gone = set & mask;
-    if tag == 0 {
-        return done & gone;
+    match tag {
+        Tag::Absent => done & gone,
+        Tag::Completed => done,
+        Tag::Aborted => gone,
     }
-    if tag == 1 {
-        return done;
-    }
-    gone
 }
 
 // Whether it is plain that no product with this tag is within the set and needs the tag.
-fn is_barren(set: u64, i: usize, tag: usize) -> bool
+fn is_barren(set: u64, i: usize, tag: Tag) -> bool
     requires { i < places }
-    ensures { result ≡ true → (q : ℕ) → tag_at q i ≡ tag → (within (suc i) q set && needed (suc i) q set i) ≡ false }
+    ensures { result ≡ true → (q : ℕ) → tag_at q i ≡ tag_number tag → (within (suc i) q set && needed (suc i) q set i) ≡ false }
 {
     let with = narrowed(set, i, tag);
     if with == 0 {
         return true;
     }
-    if tag == 0 {
+    if tag == Tag::Absent {
         return false;
     }
-    let without = narrowed(set, i, 0);
+    let without = narrowed(set, i, Tag::Absent);
     with == without
 }
 
 // How many products from p on are not prime, as far as the tags of p tell from the highest place
-// down; 0 only where p is prime.
-fn barren_from(c: Condition, p: usize) -> usize
-    ensures none_prime { NonePrime places (number c) p (p + result) }
-    ensures c_value { result ≡ 0 → prime places p (number c) ≡ true }
+// down; none where p is prime.
+fn barren_from(c: Condition, p: usize) -> Option<usize>
+    ensures { MatchOption result (prime places p (number c) ≡ true) (λ n. (0 < n) × NonePrime places (number c) p (p + n)) }
 {
     let mut set = c.0;
     let mut rest = p % Product::COUNT;
     let mut scale = Product::COUNT;
-    let mut i: usize = PLACES;
-    while 0 < i {
-        i -= 1;
+    for i in (0..PLACES).rev() {
         scale /= 3;
-        let tag = rest / scale;
+        let tag = Tag::of(rest / scale);
         rest %= scale;
         if is_barren(set, i, tag) {
-            return scale - rest;
+            return Some(scale - rest);
         }
         set = narrowed(set, i, tag);
     }
     if Product(p).is_prime(c) {
-        return 0;
+        return None;
     }
-    1
+    Some(1)
 }
 
 // The lowest number from one on and below a limit whose product is prime, or the limit.
@@ -199,11 +221,11 @@ pub(crate) fn prime_from(c: Condition, from: usize, limit: usize) -> usize
     ensures { result ≡ prime_from places (number c) from limit }
 {
     let mut p = from;
+    // kept: no plainer as a `for`, since each step is as long as `barren_from` answers.
     while p < limit {
-        let barren = barren_from(c, p);
-        if barren == 0 {
+        let Some(barren) = barren_from(c, p) else {
             return p;
-        }
+        };
         if limit - p <= barren {
             return limit;
         }

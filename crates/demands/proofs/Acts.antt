@@ -7,11 +7,10 @@ use lib.Dec.{eqb, ltb}
 use borrow.Author.Tests.{eqb-false, ltb-true, ltb-false}
 use Rattle.conditions.proofs.Laws.Below.{by_cases}
 use Rattle.conditions.specs.declared.place.TransactionNumber.{TransactionNumber}
-use Rattle.book.specs.declared.Answer.{Answer}
 use Rattle.book.specs.declared.Book.{Book}
 use Rattle.book.specs.declared.Open.{Open}
 use Rattle.book.specs.Book.{record_at, item_at, open_at, is_open, place_of, some_depends, some_on, open_of}
-use Rattle.book.specs.Answers.{accepted}
+use Rattle.book.specs.Answers.{Answer, accepted}
 use Rattle.book.specs.Transactions.{done}
 use Rattle.book.specs.Forget.{decided, needed, kept, remembered, forget}
 use Rattle.book.specs.Sound.{Sound}

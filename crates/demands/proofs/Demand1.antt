@@ -6,9 +6,9 @@ use Prim.Native.Nat.{ℕ}
 use borrow.Author.Tests.{lt-ltb, le-ltb}
 use Rattle.conditions.specs.Conditions.{of_number}
 use Rattle.polyvalues.proofs.Laws.Asked.{asked-number}
-use Rattle.book.specs.declared.Answer.{Answer}
+use Rattle.book.specs.declared.Refusal.{Refusal}
 use Rattle.book.specs.declared.Book.{Book}
-use Rattle.book.specs.Answers.{answer_number, first_of}
+use Rattle.book.specs.Answers.{refusal_number, answer_number, first_of}
 use Rattle.book.specs.Transactions.{done}
 use Rattle.book.specs.Open.{opened}
 use Rattle.book.specs.Begin.{begin_answer, begin}
@@ -30,10 +30,10 @@ use Rattle.demands.proofs.Invariant.{refused-book}
 -- ---- answers
 
 -- the number of an answer that is one of a list's
-numbered : (t : Bool) (a : Answer) (more : List (Bool × Answer)) (n : ℕ) → answer_number (first_of more) ≡ n → answer_number (first_of ((t, a) ∷ more)) ≡ cond t (answer_number a) n
+numbered : (t : Bool) (r : Refusal) (more : List (Bool × Refusal)) (n : ℕ) → answer_number (first_of more) ≡ n → answer_number (first_of ((t, r) ∷ more)) ≡ cond t (refusal_number r) n
 unfolding first_of
-numbered true a more n e = refl
-numbered false a more n e = e
+numbered true r more n e = refl
+numbered false r more n e = e
 
 none : answer_number (first_of []) ≡ 0
 unfolding first_of

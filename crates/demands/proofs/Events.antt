@@ -6,10 +6,9 @@ use Prim.Native.Nat.{ℕ, ◌^◌, ◌<◌}
 use lib.IntN.{ℤ}
 use Rattle.conditions.proofs.Laws.Below.{by_cases}
 use Rattle.polyvalues.specs.declared.polyvalue.Polyvalue.{Polyvalue}
-use Rattle.book.specs.declared.Answer.{Answer}
 use Rattle.book.specs.declared.Item.{Item}
 use Rattle.book.specs.declared.Book.{Book}
-use Rattle.book.specs.Answers.{accepted}
+use Rattle.book.specs.Answers.{Answer, accepted}
 use Rattle.book.specs.Book.{record_at, item_at}
 use Rattle.book.specs.Programs.{steps, run, touches}
 use Rattle.book.specs.Records.{busy_on}

@@ -26,7 +26,7 @@ use Rattle.demands.proofs.Items.{give_up-district, hear-district, begin-district
 pub show-left : (w : ℕ) (b : Book) → Shaped w b → (i : ℕ) (buf : List ℕ) → accepted (show_answer w b i buf) ≡ true → Left w b b
 unfolding show_answer
 show-left w b t i buf e =
-    let s : Sound w b = test-sound w b (not-false _ (test-false _ _ _ refl e)) in
+    let s : Sound w b = test-sound w b (not-false _ (test-false _ _ _ e)) in
     left w b b (sym (forget-sound w b s)) (record { but = sound-but w b s; shaped = t })
 
 pub leaves : (w : ℕ) (c : Call) (b : Book) → Shaped w b → accepted (answer_to w b c) ≡ true → Leaves w c b (book_after w b c)

@@ -6,10 +6,9 @@ use Prim.Native.Nat.{ℕ, suc, ◌<◌}
 use lib.Dec.{eqb}
 use borrow.Author.Tests.{eqb-true}
 use Rattle.conditions.proofs.Laws.Below.{by_cases}
-use Rattle.book.specs.declared.Answer.{Answer}
 use Rattle.book.specs.declared.Book.{Book}
 use Rattle.conditions.specs.declared.place.TransactionNumber.{TransactionNumber}
-use Rattle.book.specs.Answers.{accepted}
+use Rattle.book.specs.Answers.{Answer, accepted}
 use Rattle.book.specs.Book.{no_record, record_at, open_at, is_open, place_of, free_place, open_of}
 use Rattle.book.specs.Programs.{steps}
 use Rattle.book.specs.Records.{computing_on, begin_record, ready_record, hear_record}

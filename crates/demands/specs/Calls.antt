@@ -1,7 +1,7 @@
 -- "After any calls on an opened book, refusals among them" (demand 3): calls as data, what each is answered, and the book that a history of them leaves.
 -- Every answer and every book here is that of the definition which the contract of the call cites.
 use Rattle.std.specs.Prelude.{List, ℕ}
-use Rattle.book.specs.declared.Answer.{Answer}
+use Rattle.book.specs.Answers.{Answer}
 use Rattle.book.specs.declared.Book.{Book}
 use Rattle.book.specs.Begin.{begin}
 use Rattle.book.specs.Ready.{ready}

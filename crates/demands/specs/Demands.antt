@@ -11,7 +11,7 @@ use Rattle.conditions.specs.Written.{room, written}
 use Rattle.conditions.specs.Example.{Example10}
 use Rattle.polyvalues.specs.declared.polyvalue.Pair.{Pair}
 use Rattle.polyvalues.specs.Pairs.{at, hits, asked}
-use Rattle.polyvalues.specs.Asked.{asked_as, asked_number}
+use Rattle.polyvalues.specs.Asked.{asked_number}
 use Rattle.polyvalues.specs.Polyvalues.{most_pairs, Complete, WellFormed, in_use}
 use Rattle.polyvalues.specs.Operations.{reduce, select}
 use Rattle.book.specs.declared.Book.{Book}
@@ -99,7 +99,7 @@ pub record Demand1 (w : ℕ) : Type 0 where
   pub malformed : (s : List ℕ) → length s ≤ most_bytes → (p : ℕ) → sheet s ≡ wrong p → SheetGives w s 13 p (no_book w)
   pub well_formed : (s : List ℕ) → length s ≤ most_bytes → (x : Sheet) (at : ℕ) (rest : List ℕ) → sheet s ≡ right x at rest → SheetGives w s 0 0 (opened w x.districts x.items)
   -- "It refuses (2) if the assignment's number is over 63, or unless exactly one pair of the list applies.": any list of pairs
-  pub asking : (ps : List Pair) (a : ℕ) → asked_number (asked_as (asked w ps a)) ≡ cond (ltb a (2 ^ w) && eqb (hits ps a) 1) 0 2
+  pub asking : (ps : List Pair) (a : ℕ) → asked_number (asked w ps a) ≡ cond (ltb a (2 ^ w) && eqb (hits ps a) 1) 0 2
   -- "Deciding, hearing and giving up never lack room." (document 01): 8 is not in their lists above. Deciding changes no polyvalue (demand 2); what giving up makes of an item's
   -- pending and held value, and hearing of each, are at most `most_pairs` pairs, whatever the place and the outcome.
   pub give_up_room : (b : Book) → Sound w b → (i : ℕ) → i < b.count → (q : ℕ) → length (select w q (in_use (item_at b i).pending) (in_use (item_at b i).held)) ≤ most_pairs

@@ -1,8 +1,7 @@
 -- What is known of the past, from the calls and their answers alone: not from the marks that the book keeps. And what it makes of a guess (demand 3).
 use Rattle.std.specs.Prelude.{◌≡◌, Bool, true, false, not, ◌&&◌, ◌||◌, cond, List, [], ◌∷◌, ℕ, suc, eqb, ℤ}
-use Rattle.book.specs.declared.Answer.{Answer}
 use Rattle.book.specs.declared.Book.{Book}
-use Rattle.book.specs.Answers.{accepted}
+use Rattle.book.specs.Answers.{Answer, accepted}
 use Rattle.book.specs.Programs.{steps, run}
 use Rattle.demands.specs.Calls.{Call, begins_with, readies, gives_up, completes, aborts, hears, shows, answer_to, number_given, History, nothing, ◌then◌, after_calls}
 

@@ -8,8 +8,7 @@
 ghost use Rattle.std.specs.Prelude.{◌≤◌, length};
 
 use book::Answer;
-use conditions::Written;
-use sheet::{EventAt, LONGEST_LINE, MOST_BYTES, Opened, event_at, open, play, write_refusal};
+use sheet::{LONGEST_LINE, MOST_BYTES, Opened, Read, event_at, open, play, write_refusal};
 
 // Standard input and standard output, as the system numbers them.
 const STDIN: i32 = 0;
@@ -35,20 +34,16 @@ fn room(out: &[u8], waiting: usize) -> usize
 // Plays the events of a good sheet.
 fn play_all(opened: Opened, sheet: &[u8], out: &mut [u8]) {
     let n = out.len();
-    let count = opened.count;
     let mut book = opened.book;
     let mut at = opened.first;
     let mut waiting: usize = 0;
-    let mut position: usize = 0;
-    while position < count {
-        let EventAt::Read { event, next } = event_at(sheet, at) else {
+    for position in 1..=opened.count as u64 {
+        let Ok(Read { value: event, next }) = event_at(sheet, at) else {
             return;
         };
-        position += 1;
         waiting = room(out, waiting);
-        let played = play(book, sheet, event, position as u64, &mut out[waiting..]);
-        let written = played.written;
-        let Written::To(len) = written else {
+        let played = play(book, sheet, event, position, &mut out[waiting..]);
+        let Ok(len) = played.written else {
             return;
         };
         if n - waiting < len {
@@ -65,7 +60,7 @@ fn play_all(opened: Opened, sheet: &[u8], out: &mut [u8]) {
 
 // Prints the line of a refused sheet.
 fn refuse(answer: Answer, place: usize, out: &mut [u8]) {
-    let Written::To(end) = write_refusal(answer, place as u64, out) else {
+    let Ok(end) = write_refusal(answer, place as u64, out) else {
         return;
     };
     if end <= out.len() {
@@ -77,7 +72,7 @@ fn refuse(answer: Answer, place: usize, out: &mut [u8]) {
 fn print(sheet: &[u8], out: &mut [u8]) {
     let opened = open(sheet);
     let answer = opened.answer;
-    if answer.number() != 0 {
+    if answer.is_err() {
         refuse(answer, opened.place, out);
         return;
     }

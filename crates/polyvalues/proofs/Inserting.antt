@@ -7,6 +7,8 @@ use native.Mathlib.Omega.{arith}
 use lib.Dec.{leb, ltb}
 use lib.IntN.{ℤ}
 use lib.ListN.{length, get_or, take, drop, set, replicate, length-append, length-take, length-drop, length-set, length-replicate, length-map, replicate-append-replicate, take-append-drop, drop_of_length-le}
+use Rattle.std.specs.Prelude.{Some, None, Ok, is_some}
+use Rattle.std.specs.Result.{result_ok}
 use lib.Seq.{take_at, drop-cons, take-append-le, drop-append-le, set-append_left, set_at}
 use borrow.Author.Tests.{ltb-true, le-leb, lt-leb, leb-true, leb-false, lt-ltb}
 use Rattle.conditions.specs.declared.condition.Condition.{Condition}
@@ -17,10 +19,9 @@ use Rattle.conditions.proofs.Laws.Below.{and_left, and_right, by_cases}
 use Rattle.conditions.proofs.Laws.Lists.{take_row}
 use Rattle.polyvalues.specs.declared.polyvalue.Pair.{Pair}
 use Rattle.polyvalues.specs.declared.polyvalue.Polyvalue.{Polyvalue}
-use Rattle.polyvalues.specs.declared.polyvalue.Joined.{Joined}
 use Rattle.polyvalues.specs.Values.{below, equal}
 use Rattle.polyvalues.specs.Pairs.{pair, assignments, no_pair, certain}
-use Rattle.polyvalues.specs.Polyvalues.{most_pairs, paired, rows_of, in_use, padded, packed, fitted, AllRows}
+use Rattle.polyvalues.specs.Polyvalues.{most_pairs, paired, rows_of, in_use, padded, packed, fitting, fitted, AllRows}
 use Rattle.polyvalues.specs.Simplify.{insert}
 use Rattle.polyvalues.specs.Rows.{value_at, PlaceOf, has_at, carried, moved}
 use Rattle.polyvalues.proofs.Laws.Values.{equal-true, below-else}
@@ -33,26 +34,38 @@ pair_is v c e = ap (pair v) e
 
 -- ---- packed rows
 
-pub fitted-yes : (q : Polyvalue) (ps : List Pair) → length ps ≤ most_pairs → fitted q ps ≡ record { fits = true; polyvalue = packed ps }
+pub fitting-yes : (ps : List Pair) → length ps ≤ most_pairs → fitting ps ≡ Some (packed ps)
+unfolding fitting
+fitting-yes ps h = rw (le-leb (length ps) most_pairs h)
+
+pub fitting-no : (ps : List Pair) → most_pairs < length ps → fitting ps ≡ None
+unfolding fitting
+fitting-no ps h = rw (lt-leb (length ps) most_pairs h)
+
+pub fitted-yes : (q : Polyvalue) (ps : List Pair) → length ps ≤ most_pairs → fitted q ps ≡ Ok (packed ps)
 unfolding fitted
 fitted-yes q ps h = rw (le-leb (length ps) most_pairs h)
 
-pub fitted-no : (q : Polyvalue) (ps : List Pair) → most_pairs < length ps → fitted q ps ≡ record { fits = false; polyvalue = q }
-unfolding fitted
-fitted-no q ps h = rw (lt-leb (length ps) most_pairs h)
+-- what fits is the same with and without what is handed in else
+pub fitted-ok : (q : Polyvalue) (ps : List Pair) → result_ok (fitted q ps) ≡ fitting ps
+unfolding fitted fitting
+fitted-ok q ps = by_cases (leb (length ps) most_pairs) (λ e. rw e) (λ e. rw e)
 
 -- an answer that it fits, or not, tells that there is room, or not
-pub fits-yes : (q : Polyvalue) (ps : List Pair) {r : Joined} → r ≡ fitted q ps → r.fits ≡ true → (r.polyvalue ≡ packed ps) × (length ps ≤ most_pairs)
-fits-yes q ps {r} e t =
+pub fits-yes : (ps : List Pair) {q : Polyvalue} → Some q ≡ fitting ps → (q ≡ packed ps) × (length ps ≤ most_pairs)
+fits-yes ps {q} e =
     by_cases (leb (length ps) most_pairs)
-    (λ l. let few : length ps ≤ most_pairs = leb-true (length ps) most_pairs l in (ap (λ (j : Joined). j.polyvalue) (e ∙ fitted-yes q ps few), few))
-    (λ l. absurd (true≢false (sym t ∙ ap (λ (j : Joined). j.fits) (e ∙ fitted-no q ps (leb-false (length ps) most_pairs l)))))
+    (λ l. let few : length ps ≤ most_pairs = leb-true (length ps) most_pairs l in (let is = e ∙ fitting-yes ps few in cc, few))
+    (λ l. let is = e ∙ fitting-no ps (leb-false (length ps) most_pairs l) in cc)
 
-pub fits-no : (q : Polyvalue) (ps : List Pair) {r : Joined} → r ≡ fitted q ps → r.fits ≡ false → most_pairs < length ps
-fits-no q ps {r} e t =
+pub fits-no : (ps : List Pair) → None ≡ fitting ps → most_pairs < length ps
+fits-no ps e =
     by_cases (leb (length ps) most_pairs)
-    (λ l. absurd (true≢false (sym (ap (λ (j : Joined). j.fits) (e ∙ fitted-yes q ps (leb-true (length ps) most_pairs l))) ∙ t)))
+    (λ l. let is = e ∙ fitting-yes ps (leb-true (length ps) most_pairs l) in cc)
     (λ l. leb-false (length ps) most_pairs l)
+
+pub is_none-full : (ps : List Pair) → is_some (fitting ps) ≡ false → most_pairs < length ps
+is_none-full ps e = by_cases (leb (length ps) most_pairs) (λ l. absurd (true≢false (sym (ap is_some (fitting-yes ps (leb-true (length ps) most_pairs l))) ∙ e))) (λ l. leb-false (length ps) most_pairs l)
 
 pub in_use-length : (q : Polyvalue) → length (in_use q) ≡ min q.count (length (rows_of q))
 unfolding in_use
@@ -122,8 +135,8 @@ module _ (w : ℕ) (q : Polyvalue) (new : Pair) (k : ℕ) (tidy : q ≡ packed (
 
   -- the row of its value takes the union
   pub inserted_same : {there both : Pair} → has_at q k new.value ≡ true → there ≡ get_or (rows_of q) k no_pair → both ≡ pair new.value (union w (assignments there) (assignments new))
-      → ◌≡◌ {A = Joined} (record { fits = true; polyvalue = record { count = q.count; values = set q.values k both.value; conditions = set q.conditions k both.condition } })
-      (fitted q (insert w new.value (assignments new) (in_use q)))
+      → Some (record { count = q.count; values = set q.values k both.value; conditions = set q.conditions k both.condition })
+      ≡ fitting (insert w new.value (assignments new) (in_use q))
   inserted_same {both = both} has at is =
       let h : k < length (in_use q) = omega (arith, has-lt q k new.value has, tidy-count q tidy) in
       let value : (get_or (in_use q) k no_pair).value ≡ new.value =
@@ -134,8 +147,8 @@ module _ (w : ℕ) (q : Polyvalue) (new : Pair) (k : ℕ) (tidy : q ≡ packed (
       let long : length (set (in_use q) k both) ≡ length (in_use q) = length-set (in_use q) k both in
       let even : length (set q.values k both.value) ≡ length (set q.conditions k both.condition) =
       length-set q.values k both.value ∙ tidy-even q tidy ∙ sym (length-set q.conditions k both.condition) in
-      rw (result, fitted-yes q (set (in_use q) k both) (omega arith))
-      (ap (λ (r : Polyvalue). record { fits = true; polyvalue = r })
+      rw (result, fitting-yes (set (in_use q) k both) (omega arith))
+      (ap Some
       (packed-is (set (in_use q) k both) (tidy-count q tidy ∙ sym long) even
       (rw long (paired-set q.values q.conditions k both.value both.condition ∙ ap (λ (l : List Pair). set l k both) (tidy-rows q tidy) ∙ set-append_left (in_use q) _ k both h))))
 
@@ -149,19 +162,19 @@ module _ (w : ℕ) (q : Polyvalue) (new : Pair) (k : ℕ) (tidy : q ≡ packed (
 
   -- a value that no row has, and no room for it
   pub inserted-none : has_at q k new.value ≡ false → most_pairs ≤ q.count
-      → record { fits = false; polyvalue = q } ≡ fitted q (insert w new.value (assignments new) (in_use q))
+      → None ≡ fitting (insert w new.value (assignments new) (in_use q))
   inserted-none has full =
-      rw (result-new has) (sym (fitted-no q _ (omega (arith, length-new (in_use q) k new within, tidy-count q tidy))))
+      rw (result-new has) (sym (fitting-no _ (omega (arith, length-new (in_use q) k new within, tidy-count q tidy))))
 
   -- and room for it
   pub inserted_new : {rows : Polyvalue} → AllRows rows → has_at q k new.value ≡ false → q.count < most_pairs → rows_of rows ≡ moved k q.count new (rows_of q)
-      → ◌≡◌ {A = Joined} (record { fits = true; polyvalue = record { count = q.count + 1; values = rows.values; conditions = rows.conditions } })
-      (fitted q (insert w new.value (assignments new) (in_use q)))
+      → Some (record { count = q.count + 1; values = rows.values; conditions = rows.conditions })
+      ≡ fitting (insert w new.value (assignments new) (in_use q))
   inserted_new all has space is =
       let count : q.count ≡ length (in_use q) = tidy-count q tidy in
       let long : length (take k (in_use q) ++ new ∷ drop k (in_use q)) ≡ suc (length (in_use q)) = length-new (in_use q) k new within in
-      rw (result-new has, fitted-yes q (take k (in_use q) ++ new ∷ drop k (in_use q)) (omega arith))
-      (ap (λ (r : Polyvalue). record { fits = true; polyvalue = r })
+      rw (result-new has, fitting-yes (take k (in_use q) ++ new ∷ drop k (in_use q)) (omega arith))
+      (ap Some
       (packed-is (take k (in_use q) ++ new ∷ drop k (in_use q)) (omega arith) (all.values ∙ sym all.conditions)
       (is ∙ ap₂ (λ (n : ℕ) (l : List Pair). moved k n new l) count (tidy-rows q tidy) ∙ moved-rows (in_use q) k new within (omega arith)
       ∙ ap (λ (n : ℕ). (take k (in_use q) ++ new ∷ drop k (in_use q)) ++ replicate (most_pairs - n) no_pair) (sym long))))

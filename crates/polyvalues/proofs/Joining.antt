@@ -1,27 +1,29 @@
 -- Rows joined one after the other, and answers that there is room or not.
 use mathlib.Core.Path.{◌≡◌, refl, sym, ap, ◌∙◌}
-use mathlib.Core.Bool.{Bool, true, false, ◌||◌, or-false, or_assoc}
+use mathlib.Core.Bool.{Bool, ◌||◌, or-false, or_assoc}
 use mathlib.Core.List.{List, [], ◌∷◌, ◌++◌}
 use Prim.Native.Nat.{ℕ, suc, ◌^◌, ◌≤◌, ◌<◌}
 use native.Mathlib.Omega.{arith}
+use lib.Dec.{leb}
 use lib.Bits.{bit_or}
 use lib.ListN.{length, get_or, drop, drop_of_length-le, length-map}
+use Rattle.std.specs.Prelude.{Option, Some, None, ok_or}
 use Rattle.conditions.specs.Places.{places}
 use Rattle.conditions.specs.Sets.{member, set_of}
 use Rattle.conditions.specs.Conditions.{depends_on}
 use Rattle.conditions.proofs.Laws.Sets.{member-none, member-or, member-set_of, is-set_of}
+use Rattle.conditions.proofs.Laws.Below.{by_cases}
 use Rattle.conditions.proofs.Laws.Lists.{drop-take}
 use Rattle.polyvalues.specs.declared.polyvalue.Pair.{Pair}
 use Rattle.polyvalues.specs.declared.polyvalue.Polyvalue.{Polyvalue}
-use Rattle.polyvalues.specs.declared.polyvalue.Joined.{Joined}
 use Rattle.polyvalues.specs.declared.operations.Cut.TheVariants.{Completed, Aborted}
 use Rattle.polyvalues.specs.Pairs.{pair, assignments, no_pair, depends}
-use Rattle.polyvalues.specs.Polyvalues.{most_pairs, rows_of, in_use, packed, fitted}
+use Rattle.polyvalues.specs.Polyvalues.{most_pairs, rows_of, in_use, packed, fitting, fitted}
 use Rattle.polyvalues.specs.Simplify.{join, simplified_from, simplified}
 use Rattle.polyvalues.specs.Operations.{cut, changed, select}
 use Rattle.polyvalues.proofs.Laws.Simplify.{grows_from, length-simplified}
 use Rattle.polyvalues.proofs.Laws.Packed.{in_use-packed}
-use Rattle.polyvalues.proofs.Inserting.{fitted-yes, fitted-no, fits-yes, fits-no}
+use Rattle.polyvalues.proofs.Inserting.{fitting-yes, fits-yes, fits-no}
 
 -- ---- answers
 
@@ -32,12 +34,10 @@ packed-again ps e = e ∙ ap packed (sym (ap in_use e ∙ in_use-packed ps))
 pub packed-in_use : (ps : List Pair) {q : Polyvalue} → q ≡ packed ps → in_use q ≡ ps
 packed-in_use ps e = ap in_use e ∙ in_use-packed ps
 
--- an answer that rests on another polyvalue: the same where it fits, and where not, the one that was handed in
-pub refit-yes : (q t : Polyvalue) (ps : List Pair) {r : Joined} → r ≡ fitted t ps → r.fits ≡ true → r ≡ fitted q ps
-refit-yes q t ps e f = let few = (fits-yes t ps e f).1 in e ∙ fitted-yes t ps few ∙ sym (fitted-yes q ps few)
-
-pub refit-no : (q t : Polyvalue) (ps : List Pair) {r : Joined} → r ≡ fitted t ps → r.fits ≡ false → record { fits = false; polyvalue = q } ≡ fitted q ps
-refit-no q t ps e f = sym (fitted-no q ps (fits-no t ps e f))
+-- where there is no room, the answer is what was handed in
+pub fitted-or : (q : Polyvalue) (ps : List Pair) → ok_or (fitting ps) (record { 0 = q }) ≡ fitted q ps
+unfolding fitting fitted
+fitted-or q ps = by_cases (leb (length ps) most_pairs) (λ e. rw e) (λ e. rw e)
 
 -- ---- rows
 
@@ -69,14 +69,13 @@ places-done q i s h l before = is-set_of places s (depends places (in_use q)) l 
 -- ---- reduce and select
 
 -- the rows with their conditions changed, joined into nothing
-pub changed-rows : (w : ℕ) (f : ℕ → ℕ) {n : Polyvalue} → n ≡ packed [] → (q : Polyvalue) {r : Joined} → length (in_use q) ≤ most_pairs
-    → r ≡ fitted n (simplified_from w (in_use n) (changed f (in_use q))) → r.polyvalue ≡ packed (simplified w (changed f (in_use q)))
+pub changed-rows : (w : ℕ) (f : ℕ → ℕ) {n : Polyvalue} → n ≡ packed [] → (q : Polyvalue) {r : Option Polyvalue} → length (in_use q) ≤ most_pairs
+    → r ≡ fitting (simplified_from w (in_use n) (changed f (in_use q))) → r ≡ Some (packed (simplified w (changed f (in_use q))))
 unfolding simplified
 changed-rows w f {n} empty q few e =
     let rows : List Pair = changed f (in_use q) in
     let is : simplified_from w (in_use n) rows ≡ simplified w rows = ap (λ (l : List Pair). simplified_from w l rows) (packed-in_use [] empty) in
-    ap (λ (j : Joined). j.polyvalue)
-    (e ∙ ap (fitted n) is ∙ fitted-yes n (simplified w rows) (omega (arith, length-simplified w rows, length-map (in_use q) (λ p. pair p.value (f (assignments p))))))
+    e ∙ ap fitting is ∙ fitting-yes (simplified w rows) (omega (arith, length-simplified w rows, length-map (in_use q) (λ p. pair p.value (f (assignments p)))))
 
 from-append : (w : ℕ) (done ps qs : List Pair) → simplified_from w done (ps ++ qs) ≡ simplified_from w (simplified_from w done ps) qs
 unfolding simplified_from
@@ -92,29 +91,27 @@ selected-rows w i done gone t e =
 
 -- ---- one turn of the loop over the rows: `new` is row i with its condition changed
 
-module _ (w : ℕ) (f : ℕ → ℕ) (done rows : Polyvalue) (i : ℕ) (target : List Pair) {row new : Pair} {r : Joined} (at : row ≡ get_or (rows_of rows) i no_pair) (more : i < length (in_use rows))
+module _ (w : ℕ) (f : ℕ → ℕ) (done rows : Polyvalue) (i : ℕ) (target : List Pair) {row new : Pair} (at : row ≡ get_or (rows_of rows) i no_pair) (more : i < length (in_use rows))
     (left : simplified_from w (in_use done) (changed f (drop i (in_use rows))) ≡ target)
-    (is : new ≡ pair row.value (f (assignments row)))
-    (e : r ≡ fitted done (join w new.value (assignments new) (in_use done))) where
+    (is : new ≡ pair row.value (f (assignments row))) where
   after : simplified_from w (join w new.value (assignments new) (in_use done)) (changed f (drop (suc i) (in_use rows))) ≡ target
   unfolding simplified_from
   after =
       ap (λ (p : Pair). simplified_from w (join w p.value (assignments p) (in_use done)) (changed f (drop (suc i) (in_use rows)))) is
       ∙ rw (in_use-more rows i at more) at left
 
-  pub turn-fits : r.fits ≡ true
-      → (r.polyvalue ≡ packed (in_use r.polyvalue)) × (length (in_use r.polyvalue) ≤ most_pairs)
-      × (simplified_from w (in_use r.polyvalue) (changed f (drop (suc i) (in_use rows))) ≡ target)
-  turn-fits t =
-      let yes' = fits-yes done (join w new.value (assignments new) (in_use done)) e t in
-      let same : in_use r.polyvalue ≡ join w new.value (assignments new) (in_use done) = packed-in_use _ yes'.0 in
+  pub turn-fits : {r : Polyvalue} → Some r ≡ fitting (join w new.value (assignments new) (in_use done))
+      → (r ≡ packed (in_use r)) × (length (in_use r) ≤ most_pairs) × (simplified_from w (in_use r) (changed f (drop (suc i) (in_use rows))) ≡ target)
+  turn-fits {r} e =
+      let yes' = fits-yes (join w new.value (assignments new) (in_use done)) e in
+      let same : in_use r ≡ join w new.value (assignments new) (in_use done) = packed-in_use _ yes'.0 in
       (packed-again _ yes'.0, rw same yes'.1, rw same after)
 
-  pub turn-full : r.fits ≡ false → most_pairs < length target
-  turn-full t =
+  pub turn-full : None ≡ fitting (join w new.value (assignments new) (in_use done)) → most_pairs < length target
+  turn-full e =
       omega (
         arith,
-        fits-no done (join w new.value (assignments new) (in_use done)) e t,
+        fits-no (join w new.value (assignments new) (in_use done)) e,
         grows_from w (join w new.value (assignments new) (in_use done)) (changed f (drop (suc i) (in_use rows))),
         ap length after,
       )

@@ -1,5 +1,5 @@
 -- What holding a polyvalue tells of it: it has all its rows, and its conditions are sets of assignments.
-use mathlib.Core.Path.{◌≡◌, refl, ap₂}
+use mathlib.Core.Path.{◌≡◌, refl, sym, ap₂, ◌∙◌, subst⁻¹}
 use mathlib.Core.Bool.{Bool, true, ◌&&◌}
 use mathlib.Core.List.{List, [], ◌∷◌}
 use Prim.Native.Nat.{ℕ, zero, suc}
@@ -17,9 +17,10 @@ use borrow.Author.Tests.{lt-ltb}
 use Rattle.conditions.specs.declared.condition.Condition.{Condition}
 use Rattle.conditions.specs.Places.{places}
 use Rattle.conditions.proofs.Laws.Below.{and_left, and_right}
+use Rattle.polyvalues.specs.Pairs.{no_pair}
 use Rattle.polyvalues.specs.Polyvalues.{each, of_places, most_pairs, paired, rows_of, in_use, AllRows}
 use Rattle.conditions.specs.contracts.condition.Condition as TCondition
-use Rattle.polyvalues.proofs.Laws.Paired.{rows_long}
+use Rattle.polyvalues.proofs.Laws.Paired.{rows_long, paired_at}
 use Rattle.polyvalues.specs.contracts.polyvalue.Polyvalue as TPolyvalue
 
 -- q is a value that code holds
@@ -42,6 +43,11 @@ fits-at (v ∷ vs) (u ∷ us) s (suc i) = fits-at vs us s.1 i
 
 pub value-fits : {q : Polyvalue} → Held q → (i : ℕ) → SFits w16 (get_or q.values i (pos 0))
 value-fits {q} h = fits-at q.values h.own.1.1.1.0.0 h.own.1.1.1.0.1.1
+
+pub row-fits : {q : Polyvalue} → Held q → (i : ℕ) {p : Pair} → p ≡ get_or (rows_of q) i no_pair → SFits w16 p.value
+row-fits {q} h i e =
+    let all : AllRows q = all-rows h in
+    subst⁻¹ (λ (p : Pair). SFits w16 p.value) (e ∙ paired_at q.values q.conditions i (all.values ∙ sym all.conditions)) (value-fits h i)
 
 -- each condition is a set of assignments
 rows-of_places : (vs : List ℤ) (cs : List Condition) (us : List Val) → shadow (elements Condition (TCondition.the_row).own_val cs us)

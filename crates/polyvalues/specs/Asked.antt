@@ -1,36 +1,7 @@
--- "A lent list of pairs can be asked for its value under one assignment." (document 01, The book) The answer as the code gives it, and the scan that finds it.
-use Rattle.std.specs.Prelude.{cond, ℕ, eqb, ℤ, pos}
-use Rattle.std.proofs.Math.Option.{Option, none, some}
-use Rattle.conditions.specs.Places.{places}
-use Rattle.polyvalues.specs.declared.polyvalue.Pair.{Pair}
-use Rattle.polyvalues.specs.declared.scan.Asked.{Asked}
-use Rattle.polyvalues.specs.declared.scan.Asked.TheVariants.{Value, Refused}
-use Rattle.polyvalues.specs.declared.scan.Scan.{Scan}
-use Rattle.polyvalues.specs.Pairs.{applies, only}
-
--- what is asked, as the code says it
-abbrev pub asked_as : Option ℤ → Asked
-asked_as (some v) = Value v
-asked_as none = Refused
+-- "A lent list of pairs can be asked for its value under one assignment." (document 01, The book) The document's number of the answer.
+use Rattle.std.specs.Prelude.{Option, Some, None, ℕ, ℤ}
 
 -- the document's number for each answer: 0 accepted, "It refuses (2)"
-abbrev pub asked_number : Asked → ℕ
-asked_number (Value v) = 0
-asked_number Refused = 2
-
--- ---- the scan: how many pairs apply, where 2 is more than one, and the value of the first that does
-
-abbrev pub seen : ℕ → ℤ → Scan
-seen n v = record { hits = n; value = v }
-
--- of no pair
-abbrev pub unseen : Scan
-unseen = seen 0 (pos 0)
-
--- of one pair more
-abbrev pub counted : Scan → Pair → ℕ → Scan
-counted s p a = cond (applies p a) (cond (eqb s.hits 0) (seen 1 p.value) (seen 2 s.value)) s
-
--- what it says in the end
-abbrev pub found : Scan → ℕ → Option ℤ
-found s a = only places a s.hits s.value
+abbrev pub asked_number : Option ℤ → ℕ
+asked_number (Some v) = 0
+asked_number None = 2

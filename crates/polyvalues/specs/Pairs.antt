@@ -1,6 +1,5 @@
 -- "A lent list of pairs can be asked for its value under one assignment." (document 01, The book) What one pair says, and what a list of pairs says.
-use Rattle.std.specs.Prelude.{Bool, false, ◌&&◌, ◌||◌, cond, List, [], ◌∷◌, ℕ, ◌+◌, ◌^◌, eqb, ltb, ℤ, pos}
-use Rattle.std.proofs.Math.Option.{Option, none, some}
+use Rattle.std.specs.Prelude.{Bool, false, ◌&&◌, ◌||◌, cond, List, [], ◌∷◌, Option, Some, None, ℕ, ◌+◌, ◌^◌, eqb, ltb, ℤ, pos}
 use Rattle.conditions.specs.Sets.{digit, member}
 use Rattle.conditions.specs.Conditions.{number, of_number, full, depends_on}
 use Rattle.polyvalues.specs.declared.polyvalue.Pair.{Pair}
@@ -43,7 +42,7 @@ hits (p ∷ ps) a = digit (applies p a) + hits ps a
 
 -- "It refuses (2) if the assignment's number is over [the last one's], or unless exactly one pair of the list applies": v, where n pairs apply under a
 abbrev pub only : ℕ → ℕ → ℕ → ℤ → Option ℤ
-only w a n v = cond (ltb a (2 ^ w) && eqb n 1) (some v) none
+only w a n v = cond (ltb a (2 ^ w) && eqb n 1) (Some v) None
 
 -- "A lent list of pairs can be asked for its value under one assignment."
 unfoldable pub asked : ℕ → List Pair → ℕ → Option ℤ

@@ -1,11 +1,11 @@
 -- "A polyvalue is 1 to 8 pairs of value and condition, values strictly rising, no condition empty, each assignment in exactly one condition." (document 01, The book)
-use Rattle.std.specs.Prelude.{◌≡◌, Bool, true, false, not, ◌&&◌, cond, List, [], ◌∷◌, ◌++◌, map, ℕ, ◌-◌, ◌^◌, ◌≤◌, ◌<◌, eqb, leb, ltb, ℤ, length, take, drop, replicate}
+use Rattle.std.specs.Prelude.{◌≡◌, Bool, true, not, ◌&&◌, cond, List, [], ◌∷◌, ◌++◌, map, Option, Some, None, Result, Ok, Err, ℕ, ◌-◌, ◌^◌, ◌≤◌, ◌<◌, eqb, leb, ltb, ℤ, length, take, drop, replicate}
 use Rattle.conditions.specs.Below.{all}
 use Rattle.conditions.specs.declared.condition.Condition.{Condition}
 use Rattle.conditions.specs.Conditions.{empty}
 use Rattle.polyvalues.specs.declared.polyvalue.Pair.{Pair}
 use Rattle.polyvalues.specs.declared.polyvalue.Polyvalue.{Polyvalue}
-use Rattle.polyvalues.specs.declared.polyvalue.Joined.{Joined}
+use Rattle.polyvalues.specs.declared.polyvalue.NinthValue.{NinthValue}
 use Rattle.polyvalues.specs.Values.{in_range, below}
 use Rattle.polyvalues.specs.Pairs.{no_pair, blank, assignments, hits}
 
@@ -96,6 +96,10 @@ padded ps = ps ++ replicate (most_pairs - length ps) no_pair
 unfoldable pub packed : List Pair → Polyvalue
 packed ps = record { count = length ps; values = map (λ p. p.value) (padded ps); conditions = map (λ p. p.condition) (padded ps) }
 
--- as the code answers where there may be too little room: these pairs, or the polyvalue q as it was
-unfoldable pub fitted : Polyvalue → List Pair → Joined
-fitted q ps = cond (leb (length ps) most_pairs) (record { fits = true; polyvalue = packed ps }) (record { fits = false; polyvalue = q })
+-- the same, where there may be too little room
+unfoldable pub fitting : List Pair → Option Polyvalue
+fitting ps = cond (leb (length ps) most_pairs) (Some (packed ps)) None
+
+-- as the code answers then: these pairs, or the polyvalue q as it was
+unfoldable pub fitted : Polyvalue → List Pair → Result Polyvalue NinthValue
+fitted q ps = cond (leb (length ps) most_pairs) (Ok (packed ps)) (Err (record { 0 = q }))

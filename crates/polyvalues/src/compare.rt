@@ -29,14 +29,12 @@ impl Polyvalue {
         if n != other.len() {
             return false;
         }
-        let mut i: usize = 0;
-        while i < n {
+        for i in 0..n {
             let row = self.row(i);
             let twin = other.row(i);
             if !row.same(twin) {
                 return false;
             }
-            i += 1;
         }
         true
     }
@@ -45,14 +43,11 @@ impl Polyvalue {
     fn occurs(self, pair: Pair, from: usize) -> bool
         ensures { result ≡ occurs pair.value (drop from (in_use self)) }
     {
-        let n = self.len();
-        let mut i = from;
-        while i < n {
+        for i in from..self.len() {
             let row = self.row(i);
             if pair.equal(row) {
                 return true;
             }
-            i += 1;
         }
         false
     }
@@ -78,12 +73,9 @@ impl Polyvalue {
         ensures other_value { result + different (in_use other) ≡ together (in_use self) (in_use other) }
         ensures upper_bound { result ≤ most_pairs }
     {
-        let n = self.len();
         let mut count: usize = 0;
-        let mut i: usize = 0;
-        while i < n {
+        for i in 0..self.len() {
             count += self.adds(i, other);
-            i += 1;
         }
         count
     }

@@ -4,11 +4,11 @@ ghost use Rattle.conditions.specs.Places.{places};
 ghost use Rattle.conditions.specs.Conditions.{number};
 ghost use Rattle.conditions.specs.Sets.{set_of};
 ghost use Rattle.polyvalues.specs.Pairs.{pair, assignments, depends, applying};
-ghost use Rattle.polyvalues.specs.Polyvalues.{in_use, packed, fitted};
+ghost use Rattle.polyvalues.specs.Polyvalues.{in_use, packed, fitting, fitted};
 ghost use Rattle.polyvalues.specs.Simplify.{join, simplified_from};
 ghost use Rattle.polyvalues.specs.Operations.{cut, changed, reduce, select};
 
-use crate::polyvalue::{Joined, Pair, Polyvalue};
+use crate::polyvalue::{NinthValue, Pair, Polyvalue};
 use crate::rows::with_pair;
 use conditions::{Condition, Place};
 
@@ -44,45 +44,25 @@ fn cut_pair(row: Pair, place: Place, how: Cut) -> Pair
 
 impl Polyvalue {
     // The value under the condition joined into the polyvalue.
-    pub fn join(self, value: i16, condition: Condition) -> Joined
+    pub fn join(self, value: i16, condition: Condition) -> Result<Polyvalue, NinthValue>
         ensures { result ≡ fitted self (join places value (number condition) (in_use self)) }
     {
         let new = Pair { value, condition };
-        let result = with_pair(self.tidied(), new);
-        if result.fits {
-            return result;
-        }
-        Joined {
-            fits: false,
-            polyvalue: self,
-        }
+        with_pair(self.tidied(), new).ok_or(NinthValue(self))
     }
 }
 
 // The rows joined one after the other, each with its condition changed.
-fn join_rows(start: Polyvalue, rows: Polyvalue, place: Place, how: Cut) -> Joined
+fn join_rows(start: Polyvalue, rows: Polyvalue, place: Place, how: Cut) -> Option<Polyvalue>
     requires { start ≡ packed (in_use start) }
-    ensures { result ≡ fitted start (simplified_from places (in_use start) (changed (cut places place.0 how) (in_use rows))) }
+    ensures { result ≡ fitting (simplified_from places (in_use start) (changed (cut places place.0 how) (in_use rows))) }
 {
-    let n = rows.len();
     let mut done = start;
-    let mut i: usize = 0;
-    while i < n {
+    for i in 0..rows.len() {
         let row = rows.row(i);
-        let next = with_pair(done, cut_pair(row, place, how));
-        if !next.fits {
-            return Joined {
-                fits: false,
-                polyvalue: start,
-            };
-        }
-        done = next.polyvalue;
-        i += 1;
+        done = with_pair(done, cut_pair(row, place, how))?;
     }
-    Joined {
-        fits: true,
-        polyvalue: done,
-    }
+    Some(done)
 }
 
 impl Polyvalue {
@@ -90,37 +70,27 @@ impl Polyvalue {
     pub fn reduce(self, place: Place, outcome: bool) -> Polyvalue
         ensures { result ≡ packed (reduce places place.0 outcome (in_use self)) }
     {
-        join_rows(Polyvalue::nothing(), self, place, Cut::Reduced(outcome)).polyvalue
+        join_rows(Polyvalue::nothing(), self, place, Cut::Reduced(outcome)).unwrap()
     }
 
     // One polyvalue where the place is completed, another where it is aborted; the latter, where
     // there is no room for both.
-    pub fn select(place: Place, done: Polyvalue, gone: Polyvalue) -> Joined
+    pub fn select(place: Place, done: Polyvalue, gone: Polyvalue) -> Result<Polyvalue, NinthValue>
         ensures { result ≡ fitted gone (select places place.0 (in_use done) (in_use gone)) }
     {
-        let first = join_rows(Polyvalue::nothing(), done, place, Cut::Completed);
-        let both = join_rows(first.polyvalue, gone, place, Cut::Aborted);
-        if both.fits {
-            return both;
-        }
-        Joined {
-            fits: false,
-            polyvalue: gone,
-        }
+        let first = join_rows(Polyvalue::nothing(), done, place, Cut::Completed).unwrap();
+        join_rows(first, gone, place, Cut::Aborted).ok_or(NinthValue(gone))
     }
 
     // Whether one of its conditions depends on the place.
     pub fn depends(self, place: Place) -> bool
         ensures { result ≡ depends places (in_use self) place.0 }
     {
-        let n = self.len();
-        let mut i: usize = 0;
-        while i < n {
+        for i in 0..self.len() {
             let row = self.row(i);
             if row.condition.depends(place) {
                 return true;
             }
-            i += 1;
         }
         false
     }
@@ -129,14 +99,10 @@ impl Polyvalue {
     pub fn places(self) -> u8
         ensures { result ≡ set_of places (depends places (in_use self)) }
     {
-        let n = self.len();
         let mut set: u8 = 0;
-        let mut i: usize = 0;
-        while i < n {
+        for i in 0..self.len() {
             let row = self.row(i);
-            let more = row.condition.places();
-            set = set | more;
-            i += 1;
+            set |= row.condition.places();
         }
         set
     }
@@ -145,14 +111,11 @@ impl Polyvalue {
     pub fn applying(self, assignment: usize) -> Pair
         ensures { result ≡ applying (in_use self) assignment }
     {
-        let n = self.len();
-        let mut i: usize = 0;
-        while i < n {
+        for i in 0..self.len() {
             let row = self.row(i);
             if row.condition.contains(assignment) {
                 return row;
             }
-            i += 1;
         }
         Pair {
             value: 0,

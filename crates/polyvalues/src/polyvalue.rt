@@ -27,13 +27,10 @@ pub struct Polyvalue {
     pub conditions: [Condition; PAIRS],
 }
 
-// A polyvalue with something joined into it, or that there was no room for a ninth value, and then
-// it is as it was.
+// Why nothing could be joined into a polyvalue: there is no room for a ninth value. The polyvalue, as
+// it was.
 #[derive(Clone, Copy)]
-pub struct Joined {
-    pub fits: bool,
-    pub polyvalue: Polyvalue,
-}
+pub struct NinthValue(pub Polyvalue);
 
 impl Pair {
     // Whether its value is below the other's.

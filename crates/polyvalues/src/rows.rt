@@ -5,26 +5,24 @@ ghost use Rattle.std.specs.Prelude.{◌≡◌, ◌<◌, ◌≤◌};
 ghost use Rattle.conditions.specs.Places.{places};
 ghost use Rattle.conditions.specs.Conditions.{union};
 ghost use Rattle.polyvalues.specs.Pairs.{pair, assignments};
-ghost use Rattle.polyvalues.specs.Polyvalues.{most_pairs, rows_of, in_use, packed, fitted};
+ghost use Rattle.polyvalues.specs.Polyvalues.{most_pairs, rows_of, in_use, packed, fitting};
 ghost use Rattle.polyvalues.specs.Simplify.{insert, join};
 ghost use Rattle.polyvalues.specs.Rows.{PlaceOf, has_at, moved};
 
-use crate::polyvalue::{Joined, PAIRS, Pair, Polyvalue};
+use crate::polyvalue::{PAIRS, Pair, Polyvalue};
 
 // The first row whose value is not below the new one's.
 fn place_of(q: Polyvalue, new: Pair) -> usize
     requires { q.count ≤ most_pairs }
     ensures { PlaceOf q new.value result }
 {
-    let mut k: usize = 0;
-    while k < q.count {
+    for k in 0..q.count {
         let row = q.row(k);
         if !row.below(new) {
             return k;
         }
-        k += 1;
     }
-    k
+    q.count
 }
 
 // Whether the row is in use and has the new one's value.
@@ -70,9 +68,9 @@ fn united(row: Pair, new: Pair) -> Pair
 }
 
 // The new pair among rows whose values rise: at its place, or united with the row of its value.
-fn inserted(q: Polyvalue, new: Pair) -> Joined
+fn inserted(q: Polyvalue, new: Pair) -> Option<Polyvalue>
     requires { q ≡ packed (in_use q) }
-    ensures { result ≡ fitted q (insert places new.value (assignments new) (in_use q)) }
+    ensures { result ≡ fitting (insert places new.value (assignments new) (in_use q)) }
 {
     let k = place_of(q, new);
     let n = q.count;
@@ -84,40 +82,28 @@ fn inserted(q: Polyvalue, new: Pair) -> Joined
         let condition = both.condition;
         joined.values[k] = value;
         joined.conditions[k] = condition;
-        return Joined {
-            fits: true,
-            polyvalue: joined,
-        };
+        return Some(joined);
     }
     if PAIRS <= n {
-        return Joined {
-            fits: false,
-            polyvalue: q,
-        };
+        return None;
     }
     let rows = moved(q, k, n, new);
     let values = rows.values;
     let conditions = rows.conditions;
-    Joined {
-        fits: true,
-        polyvalue: Polyvalue {
-            count: n + 1,
-            values,
-            conditions,
-        },
-    }
+    Some(Polyvalue {
+        count: n + 1,
+        values,
+        conditions,
+    })
 }
 
 // The same, but that an empty condition adds nothing.
-pub(crate) fn with_pair(q: Polyvalue, new: Pair) -> Joined
+pub(crate) fn with_pair(q: Polyvalue, new: Pair) -> Option<Polyvalue>
     requires { q ≡ packed (in_use q) }
-    ensures { result ≡ fitted q (join places new.value (assignments new) (in_use q)) }
+    ensures { result ≡ fitting (join places new.value (assignments new) (in_use q)) }
 {
     if new.condition.is_empty() {
-        return Joined {
-            fits: true,
-            polyvalue: q,
-        };
+        return Some(q);
     }
     inserted(q, new)
 }

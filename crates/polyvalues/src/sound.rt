@@ -54,13 +54,11 @@ impl Polyvalue {
         requires { self.count ≤ most_pairs }
         ensures { result ≡ tidy self }
     {
-        let mut i = self.count;
-        while i < PAIRS {
+        for i in self.count..PAIRS {
             let row = self.row(i);
             if !row.is_blank() {
                 return false;
             }
-            i += 1;
         }
         true
     }
@@ -70,12 +68,9 @@ impl Polyvalue {
         ensures { result ≡ (eqb self.count 0 && each blank (rows_of self)) }
     {
         let mut none = self.count == 0;
-        let mut i: usize = 0;
-        while i < PAIRS {
+        for i in 0..PAIRS {
             let row = self.row(i);
-            let blank = row.is_blank();
-            none = none & blank;
-            i += 1;
+            none &= row.is_blank();
         }
         none
     }
@@ -84,21 +79,18 @@ impl Polyvalue {
     fn is_checked(self) -> bool
         ensures { result ≡ checked_from places below_all 0 (in_use self) }
     {
-        let n = self.len();
         let mut last = Pair {
             value: -10000,
             condition: Condition::EMPTY,
         };
         let mut covered = Condition::EMPTY;
-        let mut i: usize = 0;
-        while i < n {
+        for i in 0..self.len() {
             let row = self.row(i);
             if !row.follows(last, covered) {
                 return false;
             }
             covered = covered.union(row.condition);
             last = row;
-            i += 1;
         }
         covered.same(Condition::FULL)
     }

@@ -12,7 +12,7 @@ ghost use Rattle.polyvalues.specs.Polyvalues.{most_pairs, in_use};
 ghost use Rattle.polyvalues.specs.Text.{pair_text, line_text};
 
 use crate::polyvalue::{Pair, Polyvalue};
-use conditions::{Condition, PLACES, TransactionNumber, Written, decimal_len, room, write_decimal};
+use conditions::{Condition, NoRoom, PLACES, TransactionNumber, decimal_len, room, write_decimal};
 
 // How far the value is from zero: what stands after the sign.
 fn distance(v: i16) -> u64
@@ -51,10 +51,7 @@ fn put_decimal(buf: &mut [u8], at: usize, n: u64) -> usize
     requires { at + length (decimal n) ≤ length buf.old }
     ensures { Put buf.old buf.new at result (decimal n) }
 {
-    let Written::To(end) = write_decimal(n, buf, at) else {
-        return at;
-    };
-    end
+    write_decimal(n, buf, at).unwrap()
 }
 
 // Puts a value.
@@ -71,14 +68,14 @@ fn put_value(buf: &mut [u8], at: usize, v: i16) -> usize
 }
 
 // Writes the value in decimal into the buffer, from a position on.
-pub fn write_value(v: i16, buf: &mut [u8], at: usize) -> Written
+pub fn write_value(v: i16, buf: &mut [u8], at: usize) -> Result<usize, NoRoom>
     ensures value { result ≡ answer buf.old at (value_text v) }
     ensures buf_after { buf.new ≡ written buf.old at (value_text v) }
 {
     if !room(buf.len(), at, value_len(v)) {
-        return Written::NoRoom;
+        return Err(NoRoom);
     }
-    Written::To(put_value(buf, at, v))
+    Ok(put_value(buf, at, v))
 }
 
 // Puts a condition.
@@ -91,10 +88,7 @@ fn put_condition(
     requires { at + length (condition_text places (number_at numbers) (number c)) ≤ length buf.old }
     ensures { Put buf.old buf.new at result (condition_text places (number_at numbers) (number c)) }
 {
-    let Written::To(end) = c.write_text(numbers, buf, at) else {
-        return at;
-    };
-    end
+    c.write_text(numbers, buf, at).unwrap()
 }
 
 // How many bytes a pair takes as text.
@@ -122,12 +116,10 @@ fn put_line(buf: &mut [u8], at: usize, q: Polyvalue, numbers: [TransactionNumber
 {
     let n = q.len();
     let mut end = put_decimal(buf, at, n as u64);
-    let mut i: usize = 0;
-    while i < n {
+    for i in 0..n {
         let row = q.row(i);
         end = put_byte(buf, end, b' ');
         end = put_pair(buf, end, row, numbers);
-        i += 1;
     }
     end
 }
@@ -140,11 +132,9 @@ impl Polyvalue {
     {
         let n = self.len();
         let mut len = decimal_len(n as u64);
-        let mut i: usize = 0;
-        while i < n {
+        for i in 0..n {
             let row = self.row(i);
             len += 1 + pair_len(row, numbers);
-            i += 1;
         }
         len
     }
@@ -155,13 +145,13 @@ impl Polyvalue {
         numbers: [TransactionNumber; PLACES],
         buf: &mut [u8],
         at: usize,
-    ) -> Written
+    ) -> Result<usize, NoRoom>
         ensures value { result ≡ answer buf.old at (line_text places (number_at numbers) (in_use self)) }
         ensures buf_after { buf.new ≡ written buf.old at (line_text places (number_at numbers) (in_use self)) }
     {
         if !room(buf.len(), at, self.text_len(numbers)) {
-            return Written::NoRoom;
+            return Err(NoRoom);
         }
-        Written::To(put_line(buf, at, self, numbers))
+        Ok(put_line(buf, at, self, numbers))
     }
 }

@@ -4,6 +4,9 @@
 // number (7), nor ask a list of pairs (2). What stands in `stdout` is what must come out.
 #![tactic(auto)]
 
+use book::Book;
+use std::fmt;
+
 mod asked;
 mod damage;
 mod morning;
@@ -12,15 +15,19 @@ mod polyvalue;
 mod print;
 mod short;
 
+// Asks for all of them.
+fn asked_for(b: Book) -> fmt::Result {
+    damage::counts(b)?;
+    damage::items(b)?;
+    damage::records(b)?;
+    damage::places(b)?;
+    damage::sets(b)?;
+    polyvalue::damage(b)?;
+    short::buffers(b)?;
+    numbers::last(b)?;
+    asked::lists()
+}
+
 fn main() {
-    let b = morning::book();
-    damage::counts(b);
-    damage::items(b);
-    damage::records(b);
-    damage::places(b);
-    damage::sets(b);
-    polyvalue::damage(b);
-    short::buffers(b);
-    numbers::last(b);
-    asked::lists();
+    let _ = asked_for(morning::book());
 }

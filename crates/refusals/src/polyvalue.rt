@@ -1,14 +1,18 @@
 // "A polyvalue is 1 to 8 pairs of value and condition, values strictly rising, no condition empty, each
 // assignment in exactly one condition": one damaged field for each clause, in a held polyvalue.
-use crate::damage::{with_held, with_pending};
+use crate::damage::{with_held, with_pending, with_row};
 use crate::print::answers;
 use book::Book;
 use conditions::{Condition, Place};
-use polyvalues::{PAIRS, Polyvalue};
+use polyvalues::{NinthValue, Polyvalue};
+use std::fmt;
 
 // The first values where the place completes, the second where it aborts.
 fn either(place: usize, done: Polyvalue, gone: Polyvalue) -> Polyvalue {
-    Polyvalue::select(Place(place), done, gone).polyvalue
+    match Polyvalue::select(Place(place), done, gone) {
+        Ok(both) => both,
+        Err(NinthValue(gone)) => gone,
+    }
 }
 
 // 0 where the place completes, 3 where it aborts.
@@ -34,49 +38,47 @@ pub(crate) fn eight_values() -> Polyvalue {
 // The polyvalue with another pair.
 fn with_pair(p: Polyvalue, i: usize, value: i16, condition: Condition) -> Polyvalue {
     let mut q = p;
-    if i < PAIRS {
-        q.values[i] = value;
-        q.conditions[i] = condition;
-    }
+    q.values = with_row(p.values, i, value);
+    q.conditions = with_row(p.conditions, i, condition);
     q
 }
 
-pub(crate) fn damage(b: Book) {
+pub(crate) fn damage(b: Book) -> fmt::Result {
     let good = two_values(0);
     let done = Condition::completed(Place(0));
     let gone = done.complement();
-    answers(b"two pairs", with_held(b, 2, good));
+    answers("two pairs", with_held(b, 2, good))?;
     let mut p = good;
     p.count = 0;
-    answers(b"no pair", with_held(b, 2, p));
+    answers("no pair", with_held(b, 2, p))?;
     p.count = 9;
-    answers(b"nine pairs", with_held(b, 2, p));
+    answers("nine pairs", with_held(b, 2, p))?;
     answers(
-        b"value too high",
+        "value too high",
         with_held(b, 2, with_pair(good, 1, 10000, gone)),
-    );
+    )?;
     answers(
-        b"value too low",
+        "value too low",
         with_held(b, 2, with_pair(good, 0, -10000, done)),
-    );
+    )?;
     answers(
-        b"values not rising",
+        "values not rising",
         with_held(b, 2, with_pair(good, 0, 3, done)),
-    );
+    )?;
     let mut empty = with_pair(Polyvalue::certain(0), 1, 3, Condition::EMPTY);
     empty.count = 2;
-    answers(b"condition empty", with_held(b, 2, empty));
+    answers("condition empty", with_held(b, 2, empty))?;
     answers(
-        b"in no condition",
+        "in no condition",
         with_held(b, 2, with_pair(good, 0, 0, Condition::EMPTY)),
-    );
+    )?;
     answers(
-        b"in two conditions",
+        "in two conditions",
         with_held(b, 2, with_pair(good, 0, 0, Condition::FULL)),
-    );
+    )?;
     answers(
-        b"row past the pairs",
+        "row past the pairs",
         with_held(b, 2, with_pair(good, 7, 1, Condition::EMPTY)),
-    );
-    answers(b"pending, no pair", with_pending(b, 2, p));
+    )?;
+    answers("pending, no pair", with_pending(b, 2, p))
 }

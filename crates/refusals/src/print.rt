@@ -1,51 +1,44 @@
-// What is printed: words and numbers, and the answers of all calls on a book.
-use book::{Answer, Book};
+// What is printed: the answers of all calls on a book, a name before them.
+use book::{Answer, Book, answer_number};
 use conditions::TransactionNumber;
+use std::fmt::{self, Write};
 
-pub(crate) fn word(text: &[u8]) {
-    io::write_all(1, text);
+// Standard output, as the kit's io writes it: std's own printing would assume what the system says of an
+// error. A write that fails is passed over.
+#[derive(Clone, Copy)]
+pub(crate) struct Output;
+
+impl fmt::Write for Output {
+    fn write_str(&mut self, text: &str) -> fmt::Result {
+        io::write_all(1, text.as_bytes());
+        Ok(())
+    }
 }
 
-pub(crate) fn number(n: u64) {
-    io::write_all(1, b" ");
-    io::print_decimal(1, n);
-}
+// The numbers of answers, a space before each.
+#[derive(Clone, Copy)]
+pub(crate) struct Numbers<const N: usize>(pub(crate) [Answer; N]);
 
-pub(crate) fn answer(a: Answer) {
-    number(a.number() as u64);
-}
-
-pub(crate) fn line_end() {
-    io::write_all(1, b"\n");
-}
-
-// The answer of begin, and its number and grant.
-pub(crate) fn begun(b: Book, program: &[u8]) {
-    let r = b.begin(program);
-    let given = r.answer;
-    answer(given);
-    number(r.number.0 as u64);
-    number(r.grant as u64);
-    line_end();
+impl<const N: usize> fmt::Display for Numbers<N> {
+    fn fmt<W: fmt::Write>(&self, f: &mut fmt::Formatter<W>) -> fmt::Result {
+        for answer in &self.0 {
+            write!(f, " {}", answer_number(*answer))?;
+        }
+        Ok(())
+    }
 }
 
 // The answers of the seven calls: begin, ready, give up, complete, abort, hear, show.
-pub(crate) fn answers(name: &[u8], b: Book) {
-    word(name);
-    let begun = b.begin(b"\x02\x00\x00\x00").answer;
-    answer(begun);
-    let ready = b.ready(TransactionNumber(2), 2).answer;
-    answer(ready);
-    let gave = b.give_up(TransactionNumber(2), 2).answer;
-    answer(gave);
-    let completed = b.complete(TransactionNumber(2)).answer;
-    answer(completed);
-    let aborted = b.abort(TransactionNumber(2)).answer;
-    answer(aborted);
-    let heard = b.hear(TransactionNumber(1), 1).answer;
-    answer(heard);
+pub(crate) fn answers(name: &str, b: Book) -> fmt::Result {
     let mut line = [0u8; 64];
-    let shown = b.show(0, &mut line).answer;
-    answer(shown);
-    line_end();
+    let all = [
+        b.begin(b"\x02\x00\x00\x00").answer,
+        b.ready(TransactionNumber(2), 2).answer,
+        b.give_up(TransactionNumber(2), 2).answer,
+        b.complete(TransactionNumber(2)).answer,
+        b.abort(TransactionNumber(2)).answer,
+        b.hear(TransactionNumber(1), 1).answer,
+        b.show(0, &mut line).map(|_| ()),
+    ];
+    writeln!(Output, "{name}{}", Numbers(all))
 }

@@ -1,26 +1,19 @@
 // 16: the text buffer is shorter than the line. It is left as it was.
-use crate::print;
+use crate::print::{Numbers, Output};
 use book::Book;
+use std::fmt::{self, Write};
 
 // Shows item 0 into these bytes, and prints what has become of them.
-fn shown(b: Book, buf: &mut [u8]) {
-    print::word(b"buffer");
-    print::number(buf.len() as u64);
-    let a = b.show(0, buf).answer;
-    print::answer(a);
-    print::word(b" ");
-    print::word(buf);
-    print::line_end();
+fn shown(b: Book, buf: &mut [u8]) -> fmt::Result {
+    let answer = b.show(0, buf).map(|_| ());
+    let text = str::from_utf8(buf).unwrap_or("no text");
+    writeln!(Output, "buffer {}{} {text}", buf.len(), Numbers([answer]))
 }
 
 // The line of item 0 has 12 bytes.
-pub(crate) fn buffers(b: Book) {
-    let mut one = [b'.'; 1];
-    shown(b, &mut one);
-    let mut eleven = [b'.'; 11];
-    shown(b, &mut eleven);
-    let mut twelve = [b'.'; 12];
-    shown(b, &mut twelve);
-    let mut sixteen = [b'.'; 16];
-    shown(b, &mut sixteen);
+pub(crate) fn buffers(b: Book) -> fmt::Result {
+    shown(b, &mut [b'.'; 1])?;
+    shown(b, &mut [b'.'; 11])?;
+    shown(b, &mut [b'.'; 12])?;
+    shown(b, &mut [b'.'; 16])
 }

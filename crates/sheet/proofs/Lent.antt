@@ -1,6 +1,6 @@
 -- The part of the line's buffer that show is lent, and what show did to it.
-use mathlib.Core.Path.{◌≡◌, refl, sym, ap, ◌∙◌}
-use mathlib.Core.Bool.{true, false, not}
+use mathlib.Core.Path.{◌≡◌, sym, ap, ◌∙◌}
+use mathlib.Core.Bool.{true, not}
 use mathlib.Core.List.{List, [], ◌∷◌, ◌++◌, append_assoc}
 use Prim.Native.Nat.{ℕ, ◌+◌, ◌-◌, ◌≤◌}
 use native.Mathlib.Omega.{arith}
@@ -10,13 +10,14 @@ use lib.Seq.{sets, sets-eq, length-take-le, drop-append-le, drop-drop}
 use borrow.Author.Tests.{leb-true, not-false}
 use borrow.Rule.Slice.PartMut.{mid_of, put_mid, put_same}
 use Rattle.conditions.specs.Written.{room, written, Put}
-use Rattle.book.specs.declared.Answer.TheVariants.{NoItem, Unsound, ShortBuffer}
+use Rattle.std.specs.Prelude.{Ok, Err}
+use Rattle.book.specs.declared.Refusal.{Refusal}
+use Rattle.book.specs.declared.Refusal.TheVariants.{NoItem, Unsound, ShortBuffer}
 use Rattle.book.specs.declared.Book.{Book}
-use Rattle.book.specs.declared.Shown.{Shown}
 use Rattle.book.specs.Answers.{accepted}
 use Rattle.book.specs.Transactions.{unsound}
 use Rattle.book.specs.Show.{held_line, show_answer, shown, show}
-use Rattle.book.proofs.Laws.Answers.{test-false, later-accepted}
+use Rattle.book.proofs.Laws.Answers.{test-false, later-accepted, and-accepted, and-refused}
 use Rattle.sheet.specs.Lines.{lent_room}
 use Rattle.sheet.proofs.Laws.Show.{answer-by-length}
 
@@ -24,9 +25,9 @@ use Rattle.sheet.proofs.Laws.Show.{answer-by-length}
 accepted-room : (w : ℕ) (b : Book) (i : ℕ) (l : List ℕ) → accepted (show_answer w b i l) ≡ true → room l 0 (held_line w b i) ≡ true
 unfolding show_answer
 accepted-room w b i l e =
-    let second = later-accepted (unsound w b) Unsound ((not (ltb i b.count), NoItem) ∷ (not (room l 0 (held_line w b i)), ShortBuffer) ∷ []) refl e in
-    let third = later-accepted (not (ltb i b.count)) NoItem ((not (room l 0 (held_line w b i)), ShortBuffer) ∷ []) refl second in
-    not-false _ (test-false (not (room l 0 (held_line w b i))) ShortBuffer [] refl third)
+    let second = later-accepted (unsound w b) Unsound ((not (ltb i b.count), NoItem) ∷ (not (room l 0 (held_line w b i)), ShortBuffer) ∷ []) e in
+    let third = later-accepted (not (ltb i b.count)) NoItem ((not (room l 0 (held_line w b i)), ShortBuffer) ∷ []) second in
+    not-false _ (test-false (not (room l 0 (held_line w b i))) ShortBuffer [] third)
 
 -- a text that was written at the start of a part is put into the whole
 part-put : (a k : ℕ) (xs t : List ℕ) → a + k ≤ length xs → length t ≤ k → put_mid a k xs (t ++ drop (length t) (mid_of a k xs)) ≡ sets xs a t
@@ -48,39 +49,47 @@ module _ (w : ℕ) (b : Book) (i : ℕ) (xs : List ℕ) (from : ℕ) (fits : fro
   same_answer : show_answer w b i lent ≡ show_answer w b i (replicate lent_room 0)
   same_answer = answer-by-length w b i lent (replicate lent_room 0) (lent-long ∙ sym (length-replicate {A = ℕ} lent_room 0))
 
-  module _ {r : Shown} {last : List ℕ} (e : r ≡ show w b i lent) (f : last ≡ shown w b i lent) where
-    answer-is : r.answer ≡ show_answer w b i lent
-    unfolding show
-    answer-is = ap (λ (x : Shown). x.answer) e
-
-    pub answer-lent : r.answer ≡ show_answer w b i (replicate lent_room 0)
-    answer-lent = answer-is ∙ same_answer
-
+  module _ {last : List ℕ} (f : last ≡ shown w b i lent) where
     -- a refused show leaves the whole as it was
-    pub lent-refused : accepted r.answer ≡ false → put_mid from (from + lent_room - from) xs last ≡ xs
-    unfolding shown
-    lent-refused n =
-        let same : last ≡ lent = f ∙ rw (sym answer-is, n) in
-        ap (put_mid from (from + lent_room - from) xs) same ∙ put_same from (from + lent_room - from) xs
+    module _ {r : Refusal} (e : Err r ≡ show w b i lent) where
+      answer-is : show_answer w b i lent ≡ Err r
+      unfolding show
+      answer-is = and-refused (show_answer w b i lent) (length (held_line w b i)) e
+
+      pub refused-lent : Err r ≡ show_answer w b i (replicate lent_room 0)
+      refused-lent = sym answer-is ∙ same_answer
+
+      pub lent-refused : put_mid from (from + lent_room - from) xs last ≡ xs
+      unfolding shown
+      lent-refused =
+          let same : last ≡ lent = f ∙ rw answer-is in
+          ap (put_mid from (from + lent_room - from) xs) same ∙ put_same from (from + lent_room - from) xs
 
     -- an accepted one puts its line there
-    module _ (y : accepted r.answer ≡ true) where
-      held-room : room lent 0 (held_line w b i) ≡ true
-      held-room = accepted-room w b i lent (ap accepted (sym answer-is) ∙ y)
-
-      end_is : r.end ≡ length (held_line w b i)
+    module _ {end : ℕ} (e : Ok end ≡ show w b i lent) where
+      is_accepted : show_answer w b i lent ≡ Ok tt
       unfolding show
-      end_is = ap (λ (x : Shown). x.end) e ∙ rw (sym answer-is, y)
+      is_accepted = (and-accepted (show_answer w b i lent) e).0
 
-      pub end-few : r.end ≤ lent_room
+      end_is : end ≡ length (held_line w b i)
+      unfolding show
+      end_is = (and-accepted (show_answer w b i lent) e).1
+
+      pub accepted-lent : Ok tt ≡ show_answer w b i (replicate lent_room 0)
+      accepted-lent = sym is_accepted ∙ same_answer
+
+      held-room : room lent 0 (held_line w b i) ≡ true
+      held-room = accepted-room w b i lent (ap accepted is_accepted)
+
+      pub end-few : end ≤ lent_room
       end-few = omega (arith, end_is, leb-true (0 + length (held_line w b i)) (length lent) held-room, lent-long)
 
-      pub lent-put : Put xs (put_mid from (from + lent_room - from) xs last) from (from + r.end) (held_line w b i)
+      pub lent-put : Put xs (put_mid from (from + lent_room - from) xs last) from (from + end) (held_line w b i)
       unfolding shown written
       lent-put =
           let few : length (held_line w b i) ≤ from + lent_room - from = omega (arith, end_is, end-few) in
           let plain : 0 + length (held_line w b i) ≡ length (held_line w b i) = omega arith in
-          let new : last ≡ held_line w b i ++ drop (length (held_line w b i)) lent = f ∙ rw (sym answer-is, y, held-room, plain) in
+          let new : last ≡ held_line w b i ++ drop (length (held_line w b i)) lent = f ∙ rw (is_accepted, held-room, plain) in
           record {
             ends = ap (λ (n : ℕ). from + n) end_is;
             holds = ap (put_mid from (from + lent_room - from) xs) new ∙ part-put from (from + lent_room - from) xs (held_line w b i) (omega arith) few;

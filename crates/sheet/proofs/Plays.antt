@@ -1,20 +1,17 @@
 -- What playing an event gives, once its line is put.
 use mathlib.Core.Path.{◌≡◌, refl, sym, ap, ◌∙◌}
-use mathlib.Core.Bool.{true, false}
 use mathlib.Core.List.{List, [], ◌∷◌, ◌++◌}
 use Prim.Native.Nat.{ℕ, ◌≤◌, ◌<◌}
 use native.Mathlib.Omega.{arith}
 use lib.ListN.{length, replicate}
-use borrow.Author.Tests.{le-leb, lt-leb, eq-eqb, ne_eqb}
-use Rattle.conditions.specs.declared.text.Written.TheVariants.{To, NoRoom}
+use borrow.Author.Tests.{le-leb, lt-leb}
 use Rattle.conditions.specs.Text.{bytes}
-use Rattle.conditions.specs.Written.{Put}
-use Rattle.book.specs.declared.Answer.{Answer}
-use Rattle.book.specs.declared.Answer.TheVariants.{Accepted}
+use Rattle.conditions.specs.Written.{no_room, Put}
+use Rattle.std.specs.Prelude.{Ok, Err}
+use Rattle.book.specs.declared.Refusal.{Refusal}
 use Rattle.book.specs.declared.Book.{Book}
-use Rattle.book.specs.Answers.{answer_number, accepted}
+use Rattle.book.specs.Answers.{Answer}
 use Rattle.book.specs.Show.{held_line, show_answer}
-use Rattle.book.proofs.Laws.Answers.{is-accepted}
 use Rattle.sheet.specs.declared.events.Event.{Event}
 use Rattle.sheet.specs.declared.playing.Played.{Played}
 use Rattle.sheet.specs.Lines.{event_line, lent_room, longest_line, line_answer, line_written}
@@ -22,47 +19,38 @@ use Rattle.sheet.specs.Play.{EventResult, of_show, event_result, result_line, pl
 use Rattle.sheet.specs.Plays.{head, Plays}
 use Rattle.sheet.proofs.Writing.{line-written, shown-line, refused-line}
 
--- ---- the answer number that the code tests
-
-module _ (a : Answer) {n : ℕ} (e : n ≡ answer_number a) where
-  pub number-refused : (n ≡ 0 → ⊥) → accepted a ≡ false
-  number-refused h = ne_eqb (answer_number a) 0 (λ z. h (e ∙ z))
-
-  pub number-accepted : n ≡ 0 → accepted a ≡ true
-  number-accepted z = eq-eqb (answer_number a) 0 (sym e ∙ z)
-
 -- ---- a line in a buffer that has room for it
 
 pub plays : (x : EventResult) (position : ℕ) {l m : List ℕ} {end : ℕ} → Put l m 0 end (result_line position x) → end ≤ length l
-    → Plays x position l (record { written = To end; book = x.book }) m
+    → Plays x position l (record { written = Ok end; book = x.book }) m
 plays x position {l} {m} {end} p h =
     let w = line-written p (omega (arith, p.ends)) in
     let ends = w.0 in
-    record { result = λ k. record { written = To (ends k); book = x.book }; buffer = w.1 }
+    record { result = λ k. record { written = Ok (ends k); book = x.book }; buffer = w.1 }
 
 -- show's line
 module _ (w : ℕ) (b : Book) (i position : ℕ) where
-  pub show-accepted : {l m : List ℕ} {end : ℕ} {a : Answer} → a ≡ show_answer w b i (replicate lent_room 0) → accepted a ≡ true
-      → Put l m 0 end (((head position Accepted ++ bytes " ") ++ held_line w b i) ++ bytes "\n") → end ≤ length l
-      → Plays (of_show w b i) position l (record { written = To end; book = b }) m
+  pub show-accepted : {l m : List ℕ} {end : ℕ} → Ok tt ≡ show_answer w b i (replicate lent_room 0)
+      → Put l m 0 end (((head position (Ok tt) ++ bytes " ") ++ held_line w b i) ++ bytes "\n") → end ≤ length l
+      → Plays (of_show w b i) position l (record { written = Ok end; book = b }) m
   unfolding of_show
-  show-accepted {a = a} is y p h =
+  show-accepted is p h =
       plays (of_show w b i) position
-      (rw (shown-line position Accepted refl (held_line w b i) ∙ ap (λ (a : Answer). event_line position a (held_line w b i ∷ [])) (sym (is-accepted a y) ∙ is)) at p) h
+      (rw (shown-line position (Ok tt) refl (held_line w b i) ∙ ap (λ (a : Answer). event_line position a (held_line w b i ∷ [])) is) at p) h
 
-  pub show-refused : {l m : List ℕ} {end : ℕ} {a : Answer} → a ≡ show_answer w b i (replicate lent_room 0) → accepted a ≡ false
-      → Put l m 0 end (event_line position a []) → end ≤ length l
-      → Plays (of_show w b i) position l (record { written = To end; book = b }) m
+  pub show-refused : {l m : List ℕ} {end : ℕ} {r : Refusal} → Err r ≡ show_answer w b i (replicate lent_room 0)
+      → Put l m 0 end (event_line position (Err r) []) → end ≤ length l
+      → Plays (of_show w b i) position l (record { written = Ok end; book = b }) m
   unfolding of_show
-  show-refused {a = a} is n p h =
+  show-refused {r = r} is p h =
       plays (of_show w b i) position
-      (rw (refused-line position a n (held_line w b i ∷ []) ∙ ap (λ (a : Answer). event_line position a (held_line w b i ∷ [])) is) at p) h
+      (rw (refused-line position (Err r) refl (held_line w b i ∷ []) ∙ ap (λ (a : Answer). event_line position a (held_line w b i ∷ [])) is) at p) h
 
 -- ---- the call
 
 module _ (w : ℕ) (b : Book) (s : List ℕ) (e : Event) (position : ℕ) (l : List ℕ) where
   pub too_short : length l < longest_line
-      → (record { written = NoRoom; book = b } ≡ played w b s e position l) × (l ≡ played_buffer w b s e position l)
+      → (record { written = Err no_room; book = b } ≡ played w b s e position l) × (l ≡ played_buffer w b s e position l)
   unfolding played played_buffer line_answer line_written
   too_short h = let short = lt-leb longest_line (length l) h in (rw short, rw short)
 

@@ -9,14 +9,13 @@ use lib.ListN.{length, take, drop, length-append, length-drop, drop_of_length-le
 use lib.Seq.{take-nil, take_all, sets, sets-eq, drop-append-add, drop-drop}
 use borrow.Author.Tests.{le-leb, lt-leb}
 use Rattle.conditions.proofs.Laws.Below.{by_cases}
-use Rattle.conditions.specs.declared.text.Written.TheVariants.{To, NoRoom}
+use Rattle.std.specs.Prelude.{Ok, Err}
 use Rattle.conditions.specs.Text.{bytes, decimal, prefixed, joined}
-use Rattle.conditions.specs.Written.{written, Put}
+use Rattle.conditions.specs.Written.{no_room, written, Put}
 use Rattle.conditions.proofs.Laws.Text.{decimal-some, decimal-le, decimal-one, prefixed-snoc}
 use Rattle.conditions.proofs.Putting.{put-length, put_written}
-use Rattle.book.specs.declared.Answer.{Answer}
-use Rattle.book.specs.declared.Answer.TheVariants.{Accepted}
-use Rattle.book.specs.Answers.{answer_number, accepted}
+use Rattle.std.specs.Prelude.{Ok}
+use Rattle.book.specs.Answers.{Answer, answer_number, accepted}
 use Rattle.sheet.specs.Lines.{line, event_line, refusal_line, lent_room, longest_line, line_answer, line_written}
 use Rattle.sheet.specs.Plays.{field, head}
 
@@ -81,16 +80,16 @@ line-written p h = (omega (arith, p.ends), put_written (omega arith) p)
 
 -- what is answered of it
 module _ (l t : List ℕ) where
-  pub line-short : length l < longest_line → (NoRoom ≡ line_answer l t) × (l ≡ line_written l t)
+  pub line-short : length l < longest_line → (Err no_room ≡ line_answer l t) × (l ≡ line_written l t)
   unfolding line_answer line_written
   line-short h = let short = lt-leb longest_line (length l) h in (rw short, rw short)
 
-  pub line-given : {m : List ℕ} {end : ℕ} → longest_line ≤ length l → Put l m 0 end t → end ≤ length l → (To end ≡ line_answer l t) × (m ≡ line_written l t)
+  pub line-given : {m : List ℕ} {end : ℕ} → longest_line ≤ length l → Put l m 0 end t → end ≤ length l → (Ok end ≡ line_answer l t) × (m ≡ line_written l t)
   unfolding line_answer line_written
   line-given {m} {end} h p k =
       let roomy = le-leb longest_line (length l) h in
       let w = line-written p (omega (arith, p.ends)) in
-      (rw roomy (ap To w.0), rw roomy w.1)
+      (rw roomy (ap Ok w.0), rw roomy w.1)
 
 -- a text over a shorter one
 at-start : (l t : List ℕ) → length t ≤ length l → sets l 0 t ≡ t ++ drop (length t) l
@@ -111,13 +110,13 @@ put-over {l} {m} {k} {i} {j} {s} {t} p q h fits =
     }
 
 -- what is put before a show's line is no longer than the line of a refused one
-pub head-shorter : (position : ℕ) (a : Answer) → length (head position Accepted ++ bytes " ") ≤ length (event_line position a [])
-head-shorter position a = rw (← plain-line position a, ← head-fields position a, ← head-fields position Accepted) (simp length-append (omega (arith, decimal-some (answer_number a), ap length (decimal-one 0 (omega arith)))))
+pub head-shorter : (position : ℕ) (a : Answer) → length (head position (Ok tt) ++ bytes " ") ≤ length (event_line position a [])
+head-shorter position a = rw (← plain-line position a, ← head-fields position a, ← head-fields position (Ok tt)) (simp length-append (omega (arith, decimal-some (answer_number a), ap length (decimal-one 0 (omega arith)))))
 
 -- and it leaves what show is lent, and a line feed
-pub show-fits : (position : ℕ) {l m k : List ℕ} {i from : ℕ} → position < 10 ^ 20 → longest_line ≤ length l → Put l m 0 i (head position Accepted) → Put m k i from (bytes " ")
+pub show-fits : (position : ℕ) {l m k : List ℕ} {i from : ℕ} → position < 10 ^ 20 → longest_line ≤ length l → Put l m 0 i (head position (Ok tt)) → Put m k i from (bytes " ")
     → from + lent_room + 1 ≤ length k
 show-fits position few h p q =
     let digits = decimal-le 19 position few in
     let long = length-append (decimal position) (field (decimal 0)) ∙ ap (λ (n : ℕ). length (decimal position) + n) (ap length (ap field (decimal-one 0 (omega arith)))) in
-    omega (arith, long, ap length (head-fields position Accepted), p.ends, q.ends, put-length p, put-length q)
+    omega (arith, long, ap length (head-fields position (Ok tt)), p.ends, q.ends, put-length p, put-length q)

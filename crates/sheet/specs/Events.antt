@@ -1,11 +1,11 @@
 -- "events: `01` steps n (1 byte) and 4n bytes; `02` ready, `03` give up, `06` hear: number (2), district (1); `04` complete, `05` abort: number (2); `07` show: item (1)."
 -- "Step counts, and the numbers, districts and items in events, are judged by the events." (document 01, The sheet and the program)
-use Rattle.std.specs.Prelude.{cond, List, ℕ, ◌*◌, eqb, drop}
+use Rattle.std.specs.Prelude.{cond, List, ℕ, ◌*◌, eqb, drop, Result, Ok, Err}
 use Rattle.conditions.specs.declared.place.TransactionNumber.{TransactionNumber}
 use Rattle.sheet.specs.declared.events.Event.{Event}
 use Rattle.sheet.specs.declared.events.Event.TheVariants.{Begin, Ready, GiveUp, Complete, Abort, Hear, Show}
-use Rattle.sheet.specs.declared.events.EventAt.{EventAt}
-use Rattle.sheet.specs.declared.events.EventAt.TheVariants.{Read as Found, Wrong}
+use Rattle.sheet.specs.declared.readers.Read.{Read as Found}
+use Rattle.sheet.specs.declared.readers.Wrong.{Wrong}
 use Rattle.sheet.specs.Readers.{Read, wrong, right, and_then, byte, word, part, any, between}
 
 -- "steps n (1 byte) and 4n bytes": a begin tells where its program's bytes stand, from the one place up to the other
@@ -39,10 +39,10 @@ unfoldable pub event : ℕ → List ℕ → Read Event
 event at s = and_then (byte (between 1 7) at s) fields
 
 -- as the code answers it: the event and the place behind it, or the place where there is none
-abbrev pub answered : Read Event → EventAt
-answered (wrong place) = Wrong place
-answered (right e next s) = Found e next
+abbrev pub answered : Read Event → Result (Found Event) Wrong
+answered (wrong place) = Err (record { 0 = place })
+answered (right e next s) = Ok (record { value = e; next = next })
 
 -- the call: what stands at a place of the sheet s
-unfoldable pub event_at : List ℕ → ℕ → EventAt
+unfoldable pub event_at : List ℕ → ℕ → Result (Found Event) Wrong
 event_at s at = answered (event at (drop at s))

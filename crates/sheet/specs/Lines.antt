@@ -1,14 +1,12 @@
 -- "A refused sheet prints only `sheet`, number, place. Otherwise each event prints its position from 1 and the answer number; after it an accepted begin prints number and
 -- grant, an accepted show the count of pairs and each `value:condition`. Fields stand one space apart." (document 01, The sheet and the program)
 -- A text is the list of its bytes.
-use Rattle.std.specs.Prelude.{Bool, cond, List, [], ◌∷◌, ◌++◌, ℕ, ◌+◌, leb, length}
+use Rattle.std.specs.Prelude.{Bool, cond, List, [], ◌∷◌, ◌++◌, ℕ, ◌+◌, leb, length, Result, Ok, Err}
 use Prim.Native.Char.{code}
-use Rattle.conditions.specs.declared.text.Written.{Written}
-use Rattle.conditions.specs.declared.text.Written.TheVariants.{To, NoRoom}
+use Rattle.conditions.specs.declared.text.NoRoom.{NoRoom}
 use Rattle.conditions.specs.Text.{bytes, decimal, joined}
-use Rattle.conditions.specs.Written.{written}
-use Rattle.book.specs.declared.Answer.{Answer}
-use Rattle.book.specs.Answers.{answer_number, accepted}
+use Rattle.conditions.specs.Written.{no_room, written}
+use Rattle.book.specs.Answers.{Answer, answer_number, accepted}
 
 -- a line: its fields, one space apart, and a line feed
 unfoldable pub line : List (List ℕ) → List ℕ
@@ -41,8 +39,8 @@ abbrev pub roomy : List ℕ → Bool
 roomy buf = leb longest_line (length buf)
 
 -- what is answered of a line that is written at the buffer's start: where it ends
-unfoldable pub line_answer : List ℕ → List ℕ → Written
-line_answer buf text = cond (roomy buf) (To (length text)) NoRoom
+unfoldable pub line_answer : List ℕ → List ℕ → Result ℕ NoRoom
+line_answer buf text = cond (roomy buf) (Ok (length text)) (Err no_room)
 
 -- the buffer afterwards: a buffer that is too short is as it was
 unfoldable pub line_written : List ℕ → List ℕ → List ℕ

@@ -1,8 +1,8 @@
 -- "Open. Only a good sheet opens a book" (document 01, Events), "13: sheet malformed", "14: sheet over 32,768 bytes" and "a call that makes a book returns, refused, the
 -- all-zero book" (Answer numbers), "14 comes before 13, place 0" (The sheet and the program)
-use Rattle.std.specs.Prelude.{Bool, cond, List, ℕ, ltb, length}
-use Rattle.book.specs.declared.Answer.{Answer}
-use Rattle.book.specs.declared.Answer.TheVariants.{Accepted, Malformed, TooLong}
+use Rattle.std.specs.Prelude.{Bool, cond, List, ℕ, ltb, length, Ok, Err}
+use Rattle.book.specs.declared.Refusal.{Refusal}
+use Rattle.book.specs.declared.Refusal.TheVariants.{Malformed, TooLong}
 use Rattle.book.specs.Book.{no_book}
 use Rattle.book.specs.Open.{opened}
 use Rattle.sheet.specs.declared.opening.Opened.{Opened}
@@ -18,14 +18,14 @@ abbrev pub too_long : List ℕ → Bool
 too_long s = ltb most_bytes (length s)
 
 -- refused: the number and the place
-unfoldable pub refused : ℕ → Answer → ℕ → Opened
-refused w answer place = record { answer = answer; place = place; book = no_book w; first = 0; count = 0 }
+unfoldable pub refused : ℕ → Refusal → ℕ → Opened
+refused w r place = record { answer = Err r; place = place; book = no_book w; first = 0; count = 0 }
 
 -- a sheet that was read: its book, where its first event stands, and how many there are
 unfoldable pub opened_sheet : ℕ → Read Sheet → Opened
 opened_sheet w (wrong place) = refused w Malformed place
 opened_sheet w (right x at s) =
-    record { answer = Accepted; place = 0; book = opened w x.districts x.items; first = x.events.first; count = x.events.count }
+    record { answer = Ok tt; place = 0; book = opened w x.districts x.items; first = x.events.first; count = x.events.count }
 
 -- the call: the sheet's bytes
 unfoldable pub open_sheet : ℕ → List ℕ → Opened

@@ -1,7 +1,7 @@
 -- "The program reads one sheet from standard input. A refused sheet prints only `sheet`, number, place. Otherwise each event prints .. Last line `end`." (document 01, The
 -- sheet and the program): all that it prints, as one text.
-use Rattle.std.specs.Prelude.{cond, List, [], ◌∷◌, ◌++◌, ℕ, suc}
-use Rattle.book.specs.declared.Answer.TheVariants.{Malformed, TooLong}
+use Rattle.std.specs.Prelude.{cond, List, [], ◌∷◌, ◌++◌, ℕ, suc, Err}
+use Rattle.book.specs.declared.Refusal.TheVariants.{Malformed, TooLong}
 use Rattle.book.specs.declared.Book.{Book}
 use Rattle.book.specs.Open.{opened}
 use Rattle.sheet.specs.declared.events.Event.{Event}
@@ -19,9 +19,9 @@ event_lines w b s position (e ∷ es) =
 
 -- what is printed of the sheet s, as it was read
 unfoldable pub printed : ℕ → List ℕ → Read Sheet → List ℕ
-printed w s (wrong place) = refusal_line Malformed place
+printed w s (wrong place) = refusal_line (Err Malformed) place
 printed w s (right x at rest) = event_lines w (opened w x.districts x.items) s 1 x.events.each ++ end_line
 
 -- the program: the sheet's bytes
 unfoldable pub output : ℕ → List ℕ → List ℕ
-output w s = cond (too_long s) (refusal_line TooLong 0) (printed w s (sheet s))
+output w s = cond (too_long s) (refusal_line (Err TooLong) 0) (printed w s (sheet s))

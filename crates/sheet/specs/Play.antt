@@ -2,7 +2,7 @@
 -- a line end; the program lends it 65,536 bytes." (The sheet and the program)
 use Rattle.std.specs.Prelude.{cond, List, [], ◌∷◌, ℕ, ◌-◌, take, drop, replicate}
 use Rattle.conditions.specs.Text.{decimal}
-use Rattle.book.specs.declared.Answer.{Answer}
+use Rattle.book.specs.Answers.{Answer}
 use Rattle.book.specs.declared.Book.{Book}
 use Rattle.book.specs.declared.Begun.{Begun}
 use Rattle.book.specs.declared.Done.{Done}

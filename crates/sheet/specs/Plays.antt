@@ -1,11 +1,9 @@
 -- The fields of a line as the code puts them, and what playing an event gives once its line is put.
-use Rattle.std.specs.Prelude.{◌≡◌, List, [], ◌∷◌, ℕ, length}
+use Rattle.std.specs.Prelude.{◌≡◌, List, [], ◌∷◌, ℕ, length, Ok}
 use Prim.Native.Char.{code}
-use Rattle.conditions.specs.declared.text.Written.TheVariants.{To}
 use Rattle.conditions.specs.Text.{decimal, joined}
 use Rattle.conditions.specs.Written.{written}
-use Rattle.book.specs.declared.Answer.{Answer}
-use Rattle.book.specs.Answers.{answer_number}
+use Rattle.book.specs.Answers.{Answer, answer_number}
 use Rattle.sheet.specs.declared.playing.Played.{Played}
 use Rattle.sheet.specs.Play.{EventResult, result_line}
 
@@ -19,5 +17,5 @@ head position a = joined (code " ") (decimal position ∷ decimal (answer_number
 
 -- the line of an event's result is at the start of a buffer that was l and is m, and r is what playing the event gave
 pub record Plays (x : EventResult) (position : ℕ) (l : List ℕ) (r : Played) (m : List ℕ) : Type 0 where
-  pub result : r ≡ record { written = To (length (result_line position x)); book = x.book }
+  pub result : r ≡ record { written = Ok (length (result_line position x)); book = x.book }
   pub buffer : m ≡ written l 0 (result_line position x)

@@ -1,15 +1,14 @@
--- What a reader of the sheet s answers, as the code keeps it: whether nothing is wrong, the place behind what was read or the place that is wrong, and what was read.
-use Rattle.std.specs.Prelude.{◌≡◌, Bool, cond, List, ℕ, drop}
-use Rattle.sheet.specs.declared.events.Event.{Event}
-use Rattle.sheet.specs.declared.events.EventAt.{EventAt}
-use Rattle.sheet.specs.declared.events.EventAt.TheVariants.{Read as Found, Wrong}
+-- What a reader of the sheet s answers, as the code keeps it: what was read and the place behind it, or the place that is wrong.
+use Rattle.std.specs.Prelude.{List, ℕ, drop, Result, Ok, Err}
+use Rattle.sheet.specs.declared.readers.Read.{Read as Found}
+use Rattle.sheet.specs.declared.readers.Wrong.{Wrong}
 use Rattle.sheet.specs.Readers.{Read, wrong, right}
 
--- the reader answers r
-pub record Told {A : Type 0} (r : Read A) (s : List ℕ) (good : Bool) (place : ℕ) (x : A) : Type 0 where
-  pub is : r ≡ cond good (right x place (drop place s)) (wrong place)
+-- where the code keeps what was read in a form of its own: f of it is what the reader says
+abbrev pub told_as : {T A : Type 0} → (T → A) → List ℕ → Result (Found T) Wrong → Read A
+told_as f s (Ok x) = right (f x.value) x.next (drop x.next s)
+told_as f s (Err e) = wrong e.0
 
--- the same of an event
-abbrev pub told_event : List ℕ → EventAt → Read Event
-told_event s (Found e next) = right e next (drop next s)
-told_event s (Wrong place) = wrong place
+-- where it keeps just that
+abbrev pub told : {A : Type 0} → List ℕ → Result (Found A) Wrong → Read A
+told s r = told_as (λ x. x) s r

@@ -1,9 +1,9 @@
 // The events of a sheet, each by the place where it stands.
 ghost use Rattle.std.specs.Prelude.{◌≡◌, drop};
 ghost use Rattle.sheet.specs.Events.{program, of_item, fields, event, event_at};
-ghost use Rattle.sheet.specs.Told.{told_event};
+ghost use Rattle.sheet.specs.Told.{told};
 
-use crate::readers::{byte, byte_between, part, word};
+use crate::readers::{Read, Wrong, byte, byte_between, part, word};
 use conditions::TransactionNumber;
 
 // An event. The bytes of a begin's program stand in the sheet from `from` up to `to`.
@@ -36,52 +36,37 @@ pub enum Event {
     },
 }
 
-// What stands at a place: an event, with the place behind it, or none, with the place that is wrong.
-#[derive(Clone, Copy)]
-pub enum EventAt {
-    Read { event: Event, next: usize },
-    Wrong(usize),
-}
-
 // A begin: the count of its program's steps, and their bytes.
-fn program(sheet: &[u8], at: usize) -> EventAt
-    ensures { program at (drop at sheet.now) ≡ told_event sheet.now result }
+#[tactic(auto, unfolding(crate::specs::Events::program))]
+fn program(sheet: &[u8], at: usize) -> Result<Read<Event>, Wrong>
+    ensures { program at (drop at sheet.now) ≡ told sheet.now result }
 {
-    let steps = byte(sheet, at);
-    if !steps.good {
-        return EventAt::Wrong(steps.place);
-    }
-    let from = steps.place;
-    let end = part(sheet, from, 4 * steps.number);
-    if !end.good {
-        return EventAt::Wrong(end.place);
-    }
-    let to = end.place;
-    EventAt::Read {
-        event: Event::Begin { from, to },
+    let steps = byte(sheet, at)?;
+    let from = steps.next;
+    let to = part(sheet, from, 4 * usize::from(steps.value))?.next;
+    Ok(Read {
+        value: Event::Begin { from, to },
         next: to,
-    }
+    })
 }
 
 // Show: an item.
-fn of_item(sheet: &[u8], at: usize) -> EventAt
-    ensures { of_item at (drop at sheet.now) ≡ told_event sheet.now result }
+#[tactic(auto, unfolding(crate::specs::Events::of_item))]
+fn of_item(sheet: &[u8], at: usize) -> Result<Read<Event>, Wrong>
+    ensures { of_item at (drop at sheet.now) ≡ told sheet.now result }
 {
-    let i = byte(sheet, at);
-    if !i.good {
-        return EventAt::Wrong(i.place);
-    }
-    let item = i.number as u8;
-    EventAt::Read {
-        event: Event::Show { item },
-        next: i.place,
-    }
+    let Read { value: item, next } = byte(sheet, at)?;
+    Ok(Read {
+        value: Event::Show { item },
+        next,
+    })
 }
 
 // What stands behind an event's kind: but for begin and show a transaction number, and but for
 // complete and abort a district behind it.
-fn fields(sheet: &[u8], at: usize, kind: usize) -> EventAt
-    ensures { fields kind at (drop at sheet.now) ≡ told_event sheet.now result }
+#[tactic(auto, unfolding(crate::specs::Events::fields, crate::specs::Events::at_district, crate::specs::Events::on_number))]
+fn fields(sheet: &[u8], at: usize, kind: usize) -> Result<Read<Event>, Wrong>
+    ensures { fields kind at (drop at sheet.now) ≡ told sheet.now result }
 {
     if kind == 1 {
         return program(sheet, at);
@@ -89,57 +74,41 @@ fn fields(sheet: &[u8], at: usize, kind: usize) -> EventAt
     if kind == 7 {
         return of_item(sheet, at);
     }
-    let n = word(sheet, at);
-    if !n.good {
-        return EventAt::Wrong(n.place);
-    }
-    let serial = n.number as u16;
+    let Read {
+        value: serial,
+        next,
+    } = word(sheet, at)?;
     let number = TransactionNumber(serial);
-    let behind = n.place;
     if kind == 4 {
-        return EventAt::Read {
-            event: Event::Complete { number },
-            next: behind,
-        };
+        return Ok(Read {
+            value: Event::Complete { number },
+            next,
+        });
     }
     if kind == 5 {
-        return EventAt::Read {
-            event: Event::Abort { number },
-            next: behind,
-        };
-    }
-    let d = byte(sheet, behind);
-    if !d.good {
-        return EventAt::Wrong(d.place);
-    }
-    let district = d.number as u8;
-    let next = d.place;
-    if kind == 2 {
-        return EventAt::Read {
-            event: Event::Ready { number, district },
+        return Ok(Read {
+            value: Event::Abort { number },
             next,
-        };
+        });
     }
-    if kind == 3 {
-        return EventAt::Read {
-            event: Event::GiveUp { number, district },
-            next,
-        };
-    }
-    EventAt::Read {
-        event: Event::Hear { number, district },
+    let Read {
+        value: district,
         next,
-    }
+    } = byte(sheet, next)?;
+    let value = match kind {
+        2 => Event::Ready { number, district },
+        3 => Event::GiveUp { number, district },
+        _ => Event::Hear { number, district },
+    };
+    Ok(Read { value, next })
 }
 
-// What stands at a place of the sheet.
-pub fn event_at(sheet: &[u8], at: usize) -> EventAt
+// What stands at a place of the sheet: an event, and the place behind it.
+#[tactic(auto, using(crate::proofs::Reading::answered_told), unfolding(crate::specs::Events::event, crate::specs::Events::event_at))]
+pub fn event_at(sheet: &[u8], at: usize) -> Result<Read<Event>, Wrong>
     ensures value { result ≡ event_at sheet.now at }
-    ensures sheet_value { event at (drop at sheet.now) ≡ told_event sheet.now result }
+    ensures sheet_value { event at (drop at sheet.now) ≡ told sheet.now result }
 {
-    let kind = byte_between(sheet, at, 1, 7);
-    if !kind.good {
-        return EventAt::Wrong(kind.place);
-    }
-    fields(sheet, kind.place, kind.number)
+    let kind = byte_between(sheet, at, 1, 7)?;
+    fields(sheet, kind.next, kind.value)
 }

@@ -5,8 +5,8 @@ ghost use Rattle.conditions.specs.Written.{Put};
 ghost use Rattle.sheet.specs.Lines.{event_line, refusal_line, line_answer, line_written};
 ghost use Rattle.sheet.specs.Plays.{field, head};
 
-use book::Answer;
-use conditions::{Written, write_decimal};
+use book::{Answer, answer_number};
+use conditions::{NoRoom, write_decimal};
 
 // What show is lent.
 pub(crate) const LENT: usize = 65536;
@@ -29,10 +29,7 @@ pub(crate) fn put_decimal(buf: &mut [u8], at: usize, n: u64) -> usize
     ensures put { Put buf.old buf.new at result (decimal n) }
     ensures upper_bound { result ≤ at + 20 }
 {
-    let Written::To(end) = write_decimal(n, buf, at) else {
-        return at;
-    };
-    end
+    write_decimal(n, buf, at).unwrap()
 }
 
 // Puts a space and a number.
@@ -52,7 +49,7 @@ pub(crate) fn put_head(buf: &mut [u8], position: u64, answer: Answer) -> usize
     ensures upper_bound { result ≤ 41 }
 {
     let at = put_decimal(buf, 0, position);
-    put_field(buf, at, answer.number() as u64)
+    put_field(buf, at, answer_number(answer) as u64)
 }
 
 // Puts the line of an event that prints nothing after its answer number.
@@ -66,19 +63,19 @@ pub(crate) fn put_plain(buf: &mut [u8], position: u64, answer: Answer) -> usize
 }
 
 // Writes the line of a refused sheet at the buffer's start.
-pub fn write_refusal(answer: Answer, place: u64, buf: &mut [u8]) -> Written
+pub fn write_refusal(answer: Answer, place: u64, buf: &mut [u8]) -> Result<usize, NoRoom>
     ensures value { result ≡ line_answer buf.old (refusal_line answer place) }
     ensures buf_after { buf.new ≡ line_written buf.old (refusal_line answer place) }
 {
     if buf.len() < LONGEST_LINE {
-        return Written::NoRoom;
+        return Err(NoRoom);
     }
     let s = put_byte(buf, 0, b's');
     let h = put_byte(buf, s, b'h');
     let e = put_byte(buf, h, b'e');
     let f = put_byte(buf, e, b'e');
     let t = put_byte(buf, f, b't');
-    let number = put_field(buf, t, answer.number() as u64);
+    let number = put_field(buf, t, answer_number(answer) as u64);
     let end = put_field(buf, number, place);
-    Written::To(put_byte(buf, end, b'\n'))
+    Ok(put_byte(buf, end, b'\n'))
 }

@@ -3,8 +3,9 @@ ghost use Rattle.std.specs.Prelude.{◌≡◌};
 ghost use Rattle.conditions.specs.Places.{places};
 ghost use Rattle.sheet.specs.Open.{refused, open_sheet};
 
-use crate::sections::{districts, events, items};
-use book::{Answer, Book, opened, zero_book};
+use crate::readers::{Read, Wrong};
+use crate::sections::whole;
+use book::{Answer, Book, Refusal, opened, zero_book};
 
 // How many bytes a sheet may have.
 pub const MOST_BYTES: usize = 32768;
@@ -21,11 +22,12 @@ pub struct Opened {
 }
 
 // What a refused sheet gives.
-fn refused(answer: Answer, place: usize) -> Opened
-    ensures { result ≡ refused places answer place }
+#[tactic(auto, unfolding(crate::specs::Open::refused))]
+fn refused(refusal: Refusal, place: usize) -> Opened
+    ensures { result ≡ refused places refusal place }
 {
     Opened {
-        answer,
+        answer: Err(refusal),
         place,
         book: zero_book(),
         first: 0,
@@ -34,35 +36,21 @@ fn refused(answer: Answer, place: usize) -> Opened
 }
 
 // The call.
+#[tactic(auto, unfolding(crate::specs::Open::open_sheet, crate::specs::Open::opened_sheet, crate::specs::Open::refused))]
 pub fn open(sheet: &[u8]) -> Opened
     ensures { result ≡ open_sheet places sheet.now }
 {
-    let n = sheet.len();
-    if MOST_BYTES < n {
-        return refused(Answer::TooLong, 0);
+    if MOST_BYTES < sheet.len() {
+        return refused(Refusal::TooLong, 0);
     }
-    let districts = districts(sheet);
-    if !districts.good {
-        return refused(Answer::Malformed, districts.place);
-    }
-    let items = items(sheet, districts.place, districts.number);
-    if !items.good {
-        return refused(Answer::Malformed, items.place);
-    }
-    let events = events(sheet, items.place);
-    if !events.good {
-        return refused(Answer::Malformed, events.place);
-    }
-    let end = events.place;
-    if end < n {
-        return refused(Answer::Malformed, end);
-    }
-    let openings = items.items;
-    Opened {
-        answer: Answer::Accepted,
-        place: 0,
-        book: opened(districts.number, openings),
-        first: events.first,
-        count: events.count,
+    match whole(sheet) {
+        Ok(Read { value, .. }) => Opened {
+            answer: Ok(()),
+            place: 0,
+            book: opened(value.districts, value.items),
+            first: value.events.first,
+            count: value.events.count,
+        },
+        Err(Wrong(place)) => refused(Refusal::Malformed, place),
     }
 }

@@ -7,14 +7,14 @@ ghost use Rattle.sheet.specs.Plays.{Plays};
 
 use crate::events::Event;
 use crate::lines::{LENT, LONGEST_LINE, put_byte, put_field, put_head, put_plain};
-use book::{Answer, Begun, Book, Done};
-use conditions::Written;
+use book::{Begun, Book, Done};
+use conditions::NoRoom;
 
 // What playing an event gives: where its line ends, and the book that the next event takes. Where the
 // buffer is too short, nothing was played.
 #[derive(Clone, Copy)]
 pub struct Played {
-    pub written: Written,
+    pub written: Result<usize, NoRoom>,
     pub book: Book,
 }
 
@@ -41,21 +41,25 @@ fn begun(x: Begun, position: u64, buf: &mut [u8]) -> Played
 {
     let answer = x.answer;
     let book = x.book;
-    if answer.number() != 0 {
-        let end = put_plain(buf, position, answer);
-        return Played {
-            written: Written::To(end),
-            book,
-        };
-    }
-    let n = x.number;
-    let head = put_head(buf, position, answer);
-    let number = put_field(buf, head, n.0 as u64);
-    let grant = put_field(buf, number, x.grant as u64);
-    let end = put_byte(buf, grant, b'\n');
-    Played {
-        written: Written::To(end),
-        book,
+    match answer {
+        Ok(()) => {
+            let n = x.number;
+            let head = put_head(buf, position, answer);
+            let number = put_field(buf, head, n.0 as u64);
+            let grant = put_field(buf, number, x.grant as u64);
+            let end = put_byte(buf, grant, b'\n');
+            Played {
+                written: Ok(end),
+                book,
+            }
+        }
+        Err(_) => {
+            let end = put_plain(buf, position, answer);
+            Played {
+                written: Ok(end),
+                book,
+            }
+        }
     }
 }
 
@@ -68,7 +72,7 @@ fn done(x: Done, position: u64, buf: &mut [u8]) -> Played
     let book = x.book;
     let end = put_plain(buf, position, answer);
     Played {
-        written: Written::To(end),
+        written: Ok(end),
         book,
     }
 }
@@ -79,22 +83,24 @@ fn shown(book: Book, item: u8, position: u64, buf: &mut [u8]) -> Played
     requires { longest_line ≤ length buf.old }
     ensures { Plays (of_show places book item) position buf.old result buf.new }
 {
-    let head = put_head(buf, position, Answer::Accepted);
+    let head = put_head(buf, position, Ok(()));
     let from = put_byte(buf, head, b' ');
     let to = from + LENT;
-    let x = book.show(item, &mut buf[from..to]);
-    let answer = x.answer;
-    if answer.number() != 0 {
-        let end = put_plain(buf, position, answer);
-        return Played {
-            written: Written::To(end),
-            book,
-        };
-    }
-    let end = put_byte(buf, from + x.end, b'\n');
-    Played {
-        written: Written::To(end),
-        book,
+    match book.show(item, &mut buf[from..to]) {
+        Ok(line) => {
+            let end = put_byte(buf, from + line, b'\n');
+            Played {
+                written: Ok(end),
+                book,
+            }
+        }
+        Err(refusal) => {
+            let end = put_plain(buf, position, Err(refusal));
+            Played {
+                written: Ok(end),
+                book,
+            }
+        }
     }
 }
 
@@ -105,7 +111,7 @@ pub fn play(book: Book, sheet: &[u8], event: Event, position: u64, buf: &mut [u8
 {
     if buf.len() < LONGEST_LINE {
         return Played {
-            written: Written::NoRoom,
+            written: Err(NoRoom),
             book,
         };
     }

@@ -1,154 +1,111 @@
 // Bytes, words and values of the sheet, each with the place behind it.
-ghost use Rattle.std.specs.Prelude.{◌≡◌, ◌-◌, ◌≤◌, ◌<◌, ◌^◌, length, take, drop};
+ghost use Rattle.std.specs.Prelude.{◌≡◌, ◌+◌, ◌*◌, ◌≤◌, ◌^◌, take, drop, IfOk};
 ghost use Rattle.sheet.specs.Readers.{byte, word, part, any, between};
 ghost use Rattle.sheet.specs.Sections.{value};
-ghost use Rattle.sheet.specs.Told.{Told};
+ghost use Rattle.sheet.specs.Told.{told, told_as};
 
 use polyvalues::{in_range, of_bytes};
 
-// A number that was read: whether nothing is wrong, the place behind it or the wrong place, and the
-// number.
+// What was read, and the place behind it.
 #[derive(Clone, Copy)]
-pub(crate) struct Number {
-    pub(crate) good: bool,
-    pub(crate) place: usize,
-    pub(crate) number: usize,
+pub struct Read<T> {
+    pub value: T,
+    pub next: usize,
 }
 
-// A value that was read.
+// The place of the first wrong byte.
 #[derive(Clone, Copy)]
-pub(crate) struct ValueRead {
-    pub(crate) good: bool,
-    pub(crate) place: usize,
-    pub(crate) value: i16,
-}
+pub struct Wrong(pub usize);
 
 // A byte.
-pub(crate) fn byte(sheet: &[u8], at: usize) -> Number
-    ensures told { Told (byte any at (drop at sheet.now)) sheet.now result.good result.place result.number }
-    ensures number_bound { result.number < 2 ^ 8 }
+#[tactic(auto, using(crate::proofs::Reading::byte_past, crate::proofs::Reading::byte_there))]
+pub(crate) fn byte(sheet: &[u8], at: usize) -> Result<Read<u8>, Wrong>
+    ensures { byte any at (drop at sheet.now) ≡ told sheet.now result }
 {
-    if sheet.len() <= at {
-        return Number {
-            good: false,
-            place: at,
-            number: 0,
-        };
-    }
-    Number {
-        good: true,
-        place: at + 1,
-        number: sheet[at] as usize,
-    }
+    let &value = sheet.get(at).ok_or(Wrong(at))?;
+    Ok(Read {
+        value,
+        next: at + 1,
+    })
 }
 
 // A byte from the lowest to the highest.
-pub(crate) fn byte_between(sheet: &[u8], at: usize, low: usize, high: usize) -> Number
-    ensures told { Told (byte (between low high) at (drop at sheet.now)) sheet.now result.good result.place result.number }
-    ensures number_le_high { result.number ≤ high }
+#[tactic(auto, using(crate::proofs::Reading::tested_byte))]
+pub(crate) fn byte_between(
+    sheet: &[u8],
+    at: usize,
+    low: usize,
+    high: usize,
+) -> Result<Read<usize>, Wrong>
+    ensures told { byte (between low high) at (drop at sheet.now) ≡ told sheet.now result }
+    ensures value_le_high { IfOk result (λ r. r.value ≤ high) }
 {
-    let b = byte(sheet, at);
-    if !b.good {
-        return Number {
-            good: false,
-            place: b.place,
-            number: 0,
-        };
+    let b = byte(sheet, at)?;
+    let value = usize::from(b.value);
+    if value < low || high < value {
+        return Err(Wrong(at));
     }
-    if b.number < low {
-        return Number {
-            good: false,
-            place: at,
-            number: 0,
-        };
-    }
-    if high < b.number {
-        return Number {
-            good: false,
-            place: at,
-            number: 0,
-        };
-    }
-    b
-}
-
-// How many bytes stand from a place on.
-fn left(sheet: &[u8], at: usize) -> usize
-    ensures { result ≡ length sheet.now - at }
-{
-    let n = sheet.len();
-    if n <= at {
-        return 0;
-    }
-    n - at
+    Ok(Read {
+        value,
+        next: b.next,
+    })
 }
 
 // Two bytes, high first.
-pub(crate) fn word(sheet: &[u8], at: usize) -> Number
-    ensures told { Told (word any at (drop at sheet.now)) sheet.now result.good result.place result.number }
-    ensures number_bound { result.number < 2 ^ 16 }
+#[tactic(auto, using(crate::proofs::Reading::two_bytes))]
+fn two(sheet: &[u8], at: usize) -> Result<Read<(u8, u8)>, Wrong>
+    ensures { word any at (drop at sheet.now) ≡ told_as (λ b. b.0 * 2 ^ 8 + b.1) sheet.now result }
 {
-    let left = left(sheet, at);
-    if left < 2 {
-        return Number {
-            good: false,
-            place: at + left,
-            number: 0,
-        };
-    }
-    let high = sheet[at] as usize;
-    let low = sheet[at + 1] as usize;
-    Number {
-        good: true,
-        place: at + 2,
-        number: high * 256 + low,
-    }
+    let high = byte(sheet, at)?;
+    let low = byte(sheet, high.next)?;
+    Ok(Read {
+        value: (high.value, low.value),
+        next: low.next,
+    })
 }
 
-// Two bytes, high first, that are a value in two's complement.
-pub(crate) fn value(sheet: &[u8], at: usize) -> ValueRead
-    ensures { Told (value at (drop at sheet.now)) sheet.now result.good result.place result.value }
+// Two bytes that are a number.
+pub(crate) fn word(sheet: &[u8], at: usize) -> Result<Read<u16>, Wrong>
+    ensures { word any at (drop at sheet.now) ≡ told sheet.now result }
 {
-    let left = left(sheet, at);
-    if left < 2 {
-        return ValueRead {
-            good: false,
-            place: at + left,
-            value: 0,
-        };
-    }
-    let value = of_bytes(sheet[at], sheet[at + 1]);
-    let next = at + 2;
-    if !in_range(value as i32) {
+    let Read {
+        value: (high, low),
+        next,
+    } = two(sheet, at)?;
+    Ok(Read {
+        value: u16::from_be_bytes([high, low]),
+        next,
+    })
+}
+
+// Two bytes that are a value in two's complement.
+#[tactic(auto, using(crate::proofs::Reading::value_of), unfolding(polyvalues::specs::Values::of_bytes))]
+pub(crate) fn value(sheet: &[u8], at: usize) -> Result<Read<i16>, Wrong>
+    ensures { value at (drop at sheet.now) ≡ told sheet.now result }
+{
+    let Read {
+        value: (high, low),
+        next,
+    } = two(sheet, at)?;
+    let value = of_bytes(high, low);
+    if !in_range(i32::from(value)) {
         let first = at;
-        return ValueRead {
-            good: false,
-            place: first,
-            value: 0,
-        };
+        return Err(Wrong(first));
     }
-    ValueRead {
-        good: true,
-        place: next,
-        value,
-    }
+    Ok(Read { value, next })
 }
 
 // So many bytes, whatever they are.
-pub(crate) fn part(sheet: &[u8], at: usize, n: usize) -> Number
-    ensures { Told (part n at (drop at sheet.now)) sheet.now result.good result.place (take n (drop at sheet.now)) }
+#[tactic(auto, using(crate::proofs::Reading::part_good, crate::proofs::Reading::part_short))]
+pub(crate) fn part(sheet: &[u8], at: usize, n: usize) -> Result<Read<()>, Wrong>
+    ensures { part n at (drop at sheet.now) ≡ told_as (λ _. take n (drop at sheet.now)) sheet.now result }
 {
-    let left = left(sheet, at);
+    let left = sheet.len().saturating_sub(at);
     if left < n {
-        return Number {
-            good: false,
-            place: at + left,
-            number: left,
-        };
+        return Err(Wrong(at + left));
     }
-    Number {
-        good: true,
-        place: at + n,
-        number: n,
-    }
+    Ok(Read {
+        value: (),
+        next: at + n,
+    })
 }

@@ -1,5 +1,5 @@
 -- Demand 1 of every call: a refused call returns the same book, an accepted one on a sound book a sound book.
-use mathlib.Core.Path.{◌≡◌, refl}
+use mathlib.Core.Path.{◌≡◌}
 use mathlib.Core.Bool.{Bool, true, false, not, ◌&&◌}
 use mathlib.Core.List.{List, [], ◌∷◌}
 use Prim.Native.Nat.{ℕ, ◌≤◌, ◌<◌}
@@ -7,11 +7,11 @@ use native.Mathlib.Omega.{arith}
 use borrow.Author.Tests.{ltb-true, not-false}
 use Rattle.conditions.specs.Sets.{member}
 use Rattle.conditions.proofs.Laws.Below.{or_right, by_cases, any_none}
-use Rattle.book.specs.declared.Answer.{Answer}
-use Rattle.book.specs.declared.Answer.TheVariants.{NoDistrict, NotOpen, NotOnIt, NotDecided, AlreadyDecided, Unsound}
+use Rattle.book.specs.declared.Refusal.{Refusal}
+use Rattle.book.specs.declared.Refusal.TheVariants.{NoDistrict, NotOpen, NotOnIt, NotDecided, AlreadyDecided, Unsound}
 use Rattle.book.specs.declared.Book.{Book}
 use Rattle.book.specs.declared.Step.{Step}
-use Rattle.book.specs.Answers.{accepted, first_of}
+use Rattle.book.specs.Answers.{Answer, accepted, first_of}
 use Rattle.book.specs.Book.{last_number, record_at, place_of, free_place, open_of}
 use Rattle.book.specs.Programs.{steps}
 use Rattle.book.specs.Records.{computing_on, busy_on}
@@ -68,17 +68,17 @@ pub record AtDistrict (w : ℕ) (b : Book) (n d : ℕ) (fact : Bool) : Type 0 wh
   pub district : d < b.districts
   pub last : fact ≡ true
 
-at-district : (w : ℕ) (b : Book) (n d : ℕ) (fact : Bool) (a : Answer) → accepted a ≡ false
-    → accepted (first_of ((unsound w b, Unsound) ∷ (not_open w b n, NotOpen) ∷ (no_district b d, NoDistrict) ∷ (not fact, a) ∷ [])) ≡ true → AtDistrict w b n d fact
-at-district w b n d fact a refused e =
-    let e1 = later-accepted _ _ _ refl e in
-    let e2 = later-accepted _ _ _ refl e1 in
-    let e3 = later-accepted _ _ _ refl e2 in
+at-district : (w : ℕ) (b : Book) (n d : ℕ) (fact : Bool) (r : Refusal)
+    → accepted (first_of ((unsound w b, Unsound) ∷ (not_open w b n, NotOpen) ∷ (no_district b d, NoDistrict) ∷ (not fact, r) ∷ [])) ≡ true → AtDistrict w b n d fact
+at-district w b n d fact r e =
+    let e1 = later-accepted _ _ _ e in
+    let e2 = later-accepted _ _ _ e1 in
+    let e3 = later-accepted _ _ _ e2 in
     record {
-      sound = test-sound w b (not-false _ (test-false _ _ _ refl e));
-      place = ltb-true (place_of w b n) w (not-false _ (test-false _ _ _ refl e1));
-      district = ltb-true d b.districts (not-false _ (test-false _ _ _ refl e2));
-      last = not-false _ (test-false _ _ _ refused e3);
+      sound = test-sound w b (not-false _ (test-false _ _ _ e));
+      place = ltb-true (place_of w b n) w (not-false _ (test-false _ _ _ e1));
+      district = ltb-true d b.districts (not-false _ (test-false _ _ _ e2));
+      last = not-false _ (test-false _ _ _ e3);
     }
 
 -- ---- ready
@@ -88,7 +88,7 @@ Readies w b n d = AtDistrict w b n d (computing_on n (record_at b d))
 
 pub ready-tests : (w : ℕ) (b : Book) (n d : ℕ) → accepted (ready w b n d).answer ≡ true → Readies w b n d
 unfolding ready done ready_answer
-ready-tests w b n d = at-district w b n d (computing_on n (record_at b d)) NotOnIt refl
+ready-tests w b n d = at-district w b n d (computing_on n (record_at b d)) NotOnIt
 
 pub ready-leaves : (w : ℕ) (b : Book) (n d : ℕ) → Shaped w b → Readies w b n d → WholeBut w (readied w b n d)
 ready-leaves w b n d t f =
@@ -105,7 +105,7 @@ GivesUp w b n d = AtDistrict w b n d (busy_on n (record_at b d))
 
 pub give_up-tests : (w : ℕ) (b : Book) (n d : ℕ) → accepted (give_up w b n d).answer ≡ true → GivesUp w b n d
 unfolding give_up done give_up_answer
-give_up-tests w b n d = at-district w b n d (busy_on n (record_at b d)) NotOnIt refl
+give_up-tests w b n d = at-district w b n d (busy_on n (record_at b d)) NotOnIt
 
 pub give_up-leaves : (w : ℕ) (b : Book) (n d : ℕ) → Shaped w b → GivesUp w b n d → WholeBut w (gave_up w b n d)
 give_up-leaves w b n d t f =
@@ -126,26 +126,26 @@ pub record Decides (w : ℕ) (b : Book) (n v : ℕ) : Type 0 where
   pub ready : v ≡ 1 → (d : ℕ) → d < b.districts → member (open_of w b n).touched d ≡ true → member (open_of w b n).ready d ≡ true
 
 -- the tests of both, and then those that only one has
-decide-tests : (w : ℕ) (b : Book) (n v : ℕ) (more : List (Bool × Answer)) → v ≤ 2
+decide-tests : (w : ℕ) (b : Book) (n v : ℕ) (more : List (Bool × Refusal)) → v ≤ 2
     → (accepted (first_of more) ≡ true → v ≡ 1 → some_not_ready b (open_of w b n) ≡ false)
     → accepted (first_of ((unsound w b, Unsound) ∷ (not_open w b n, NotOpen) ∷ (decided (open_of w b n), AlreadyDecided) ∷ more)) ≡ true → Decides w b n v
 unfolding some_not_ready
 decide-tests w b n v more known ready e =
     let o = open_of w b n in
-    let e1 = later-accepted _ _ _ refl e in
-    let e2 = later-accepted _ _ _ refl e1 in
-    let e3 = later-accepted _ _ _ refl e2 in
+    let e1 = later-accepted _ _ _ e in
+    let e2 = later-accepted _ _ _ e1 in
+    let e3 = later-accepted _ _ _ e2 in
     record {
-      sound = test-sound w b (not-false _ (test-false _ _ _ refl e));
-      place = ltb-true (place_of w b n) w (not-false _ (test-false _ _ _ refl e1));
-      undecided = test-false _ _ _ refl e2;
+      sound = test-sound w b (not-false _ (test-false _ _ _ e));
+      place = ltb-true (place_of w b n) w (not-false _ (test-false _ _ _ e1));
+      undecided = test-false _ _ _ e2;
       known = known;
       ready = λ one d h k. not-false _ (rw k at (any_none b.districts (λ d. member o.touched d && not (member o.ready d)) (ready e3 one) d h));
     }
 
 pub complete-tests : (w : ℕ) (b : Book) (n : ℕ) → accepted (complete w b n).answer ≡ true → Decides w b n 1
 unfolding complete done complete_answer
-complete-tests w b n = decide-tests w b n 1 _ (omega arith) (λ e one. test-false _ _ _ refl e)
+complete-tests w b n = decide-tests w b n 1 _ (omega arith) (λ e one. test-false _ _ _ e)
 
 pub abort-tests : (w : ℕ) (b : Book) (n : ℕ) → accepted (abort w b n).answer ≡ true → Decides w b n 2
 unfolding abort done abort_answer
@@ -170,7 +170,7 @@ Hears w b n d = AtDistrict w b n d (decided (open_of w b n))
 
 pub hear-tests : (w : ℕ) (b : Book) (n d : ℕ) → accepted (hear w b n d).answer ≡ true → Hears w b n d
 unfolding hear done hear_answer
-hear-tests w b n d = at-district w b n d (decided (open_of w b n)) NotDecided refl
+hear-tests w b n d = at-district w b n d (decided (open_of w b n)) NotDecided
 
 pub hear-leaves : (w : ℕ) (b : Book) (n d : ℕ) → Shaped w b → Hears w b n d → WholeBut w (heard w b n d)
 hear-leaves w b n d t f =
@@ -185,20 +185,20 @@ hear-whole w b n d s = done-whole w (hear_answer w b n d) (heard w b n d) b s (�
 pub begin-tests : (w : ℕ) (b : Book) (bytes : List ℕ) → accepted (begin w b bytes).answer ≡ true → (Sound w b) × (Begins w b (steps bytes))
 unfolding begin begin_answer bad_program
 begin-tests w b bytes e =
-    let e1 = later-accepted _ _ _ refl e in
-    let e2 = later-accepted _ _ _ refl e1 in
-    let e3 = later-accepted _ _ _ refl e2 in
-    let e4 = later-accepted _ _ _ refl e3 in
-    let e5 = later-accepted _ _ _ refl e4 in
-    let e6 = later-accepted _ _ _ refl e5 in (
-      test-sound w b (not-false _ (test-false _ _ _ refl e)),
+    let e1 = later-accepted _ _ _ e in
+    let e2 = later-accepted _ _ _ e1 in
+    let e3 = later-accepted _ _ _ e2 in
+    let e4 = later-accepted _ _ _ e3 in
+    let e5 = later-accepted _ _ _ e4 in
+    let e6 = later-accepted _ _ _ e5 in (
+      test-sound w b (not-false _ (test-false _ _ _ e)),
       record {
-        good = or_right (bad_length bytes) _ (test-false _ _ _ refl e1);
-        inside = test-false _ _ _ refl e2;
-        idles = test-false _ _ _ refl e3;
-        place = ltb-true (free_place w b) w (not-false _ (test-false _ _ _ refl e4));
-        numbers = ltb-true b.last.0 last_number (not-false _ (test-false _ _ _ refl e5));
-        few = test-false _ _ _ refl e6;
+        good = or_right (bad_length bytes) _ (test-false _ _ _ e1);
+        inside = test-false _ _ _ e2;
+        idles = test-false _ _ _ e3;
+        place = ltb-true (free_place w b) w (not-false _ (test-false _ _ _ e4));
+        numbers = ltb-true b.last.0 last_number (not-false _ (test-false _ _ _ e5));
+        few = test-false _ _ _ e6;
       },
     )
 

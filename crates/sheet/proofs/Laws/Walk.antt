@@ -5,11 +5,11 @@ use mathlib.Core.Bool.{cond}
 use mathlib.Core.List.{List, [], ◌∷◌, ◌++◌, append-nil, append_assoc}
 use Prim.Native.Nat.{ℕ, zero, suc}
 use lib.ListN.{length, drop}
+use Rattle.std.specs.Prelude.{Ok}
 use Rattle.conditions.proofs.Laws.Below.{by_cases}
 use Rattle.book.specs.declared.Book.{Book}
 use Rattle.book.specs.Answers.{accepted}
 use Rattle.sheet.specs.declared.events.Event.{Event}
-use Rattle.sheet.specs.declared.events.EventAt.TheVariants.{Read as Found}
 use Rattle.sheet.specs.Readers.{Read, wrong, right, repeat, one_more, word, any}
 use Rattle.sheet.specs.Events.{event, answered, event_at}
 use Rattle.sheet.specs.Sections.{Events, Sheet, districts, items, events, sheet}
@@ -25,7 +25,7 @@ use Rattle.sheet.proofs.Laws.Places.{leaves_word, leaves-event, leaves-districts
 
 module _ (s : List ℕ) where
   -- what is read at a place is what the call finds there
-  event-found : (at : ℕ) {e : Event} {next : ℕ} {rest : List ℕ} → event at (drop at s) ≡ right e next rest → event_at s at ≡ Found e next
+  event-found : (at : ℕ) {e : Event} {next : ℕ} {rest : List ℕ} → event at (drop at s) ≡ right e next rest → event_at s at ≡ Ok (record { value = e; next = next })
   unfolding event_at
   event-found at q = ap answered q
 
@@ -45,7 +45,7 @@ module _ (s : List ℕ) where
         read.0 ∷ rest.0,
         rest.1 ∙ ap (λ (l : List Event). l ++ rest.0) (sym same) ∙ append_assoc got (read.0 ∷ []) rest.0,
         ap suc rest.2,
-        (one.1, event-found at read.3 ∙ ap (Found read.0) behind, rest.3),
+        (one.1, event-found at read.3 ∙ ap (λ (n : ℕ). Ok (record { value = read.0; next = n })) behind, rest.3),
       )
 
   events-found : (at : ℕ) {x : Events} {next : ℕ} {rest : List ℕ} → events at (drop at s) ≡ right x next rest → AsRead s x

@@ -1,7 +1,5 @@
-use mathlib.Core.Path.{refl, sym, ap, ◌∙◌, subst⁻¹}
-use mathlib.Core.Bool.{true≢false}
+use mathlib.Core.Path.{refl, ap, ◌∙◌, subst⁻¹}
 use native.Mathlib.Omega.{arith}
-use borrow.Author.Tests.{not-true, not-false}
 use Rattle.conditions.specs.Places.{places}
 use Rattle.conditions.specs.Conditions.{number, union}
 use Rattle.book.specs.States.{steps_of}
@@ -15,23 +13,25 @@ loop-next-init c = subst⁻¹ (Covering c.args.b (steps_of c.args.p) 0) c.nothin
 pub alternative_under-start-requires : goal.alternative_under-start-requires
 alternative_under-start-requires c = (test-sound places c.args.b c.requires.b_value).few_items
 
-pub after-more-requires : goal.after-more-requires
-after-more-requires c = ((test-sound places c.args.b c.requires.b_value).few_items, c.requires.p_value)
+pub after-requires : goal.after-requires
+after-requires c = ((test-sound places c.args.b c.requires.b_value).few_items, c.requires.p_value)
 
-pub returns-then-not-more : goal.returns-then-not-more
-returns-then-not-more c = record {
-  worked_out = (λ f. absurd (true≢false (sym f ∙ not-true _ c.if-not-more.true)));
-  p_value_2 = (c.after-more.ensures.covers c.args.b c.loop-next.next refl c.requires.b_value (omega arith) c.loop-next.invariant.covers c.alternative_under-start.ensures.condition_value c.alternative_under-start.ensures.starts_as).1;
-}
+pub returns-in_err-done : goal.returns-in_err-done
+returns-in_err-done c =
+    let start = c.alternative_under-start.ensures in
+    rw c.from_residual.ensures (c.in_err-done.ensures.covers c.args.b c.loop-next.next refl c.requires.b_value (omega arith) c.loop-next.invariant.covers start.condition_value start.starts_as)
 
 pub loop-next-smaller : goal.loop-next-smaller
-loop-next-smaller c = omega (arith, covering-rises c.args.b (steps_of c.args.p) c.requires.b_value c.loop-next.next (omega arith) c.loop-next.invariant c.after-more.result (c.after-more.ensures.covered_value ∙ ap (union places (number c.loop-next.done.covered)) c.alternative_under-start.ensures.condition_value) c.complement-left.ensures c.lowest-next.ensures)
+loop-next-smaller c =
+    let more = c.in_ok-done.ensures.covered_value ∙ ap (union places (number c.loop-next.done.covered)) c.alternative_under-start.ensures.condition_value in
+    omega (arith, covering-rises c.args.b (steps_of c.args.p) c.requires.b_value c.loop-next.next (omega arith) c.loop-next.invariant c.in_ok-done.done more c.complement.ensures c.lowest-next.ensures)
 
 pub loop-next-preserved : goal.loop-next-preserved
-loop-next-preserved c = let f = not-false _ c.if-not-more.false in covering-next c.args.b (steps_of c.args.p) c.requires.b_value c.loop-next.next (omega arith) c.loop-next.invariant c.after-more.result (c.after-more.ensures.covered_value ∙ ap (union places (number c.loop-next.done.covered)) c.alternative_under-start.ensures.condition_value) c.complement-left.ensures c.lowest-next.ensures f ((c.after-more.ensures.covers c.args.b c.loop-next.next refl c.requires.b_value (omega arith) c.loop-next.invariant.covers c.alternative_under-start.ensures.condition_value c.alternative_under-start.ensures.starts_as).0 f)
+loop-next-preserved c =
+    let start = c.alternative_under-start.ensures in
+    let more = c.in_ok-done.ensures.covered_value ∙ ap (union places (number c.loop-next.done.covered)) start.condition_value in
+    covering-next c.args.b (steps_of c.args.p) c.requires.b_value c.loop-next.next (omega arith) c.loop-next.invariant c.in_ok-done.done more c.complement.ensures c.lowest-next.ensures
+    (c.in_ok-done.ensures.covers c.args.b c.loop-next.next refl c.requires.b_value (omega arith) c.loop-next.invariant.covers start.condition_value start.starts_as)
 
 pub returns : goal.returns
-returns c = record {
-  worked_out = (λ f. covering-all c.args.b (steps_of c.args.p) c.requires.b_value c.loop-next.next (omega arith) c.loop-next.invariant);
-  p_value_2 = (λ f. absurd (true≢false (sym c.loop-next.invariant.fits ∙ f)));
-}
+returns c = covering-all c.args.b (steps_of c.args.p) c.requires.b_value c.loop-next.next (omega arith) c.loop-next.invariant

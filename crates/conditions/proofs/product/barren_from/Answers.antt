@@ -4,14 +4,17 @@ use native.Mathlib.Nat.{mod-lt}
 use native.Mathlib.Omega.{arith}
 use Rattle.conditions.specs.Places.{places}
 use Rattle.conditions.proofs.Primes.{none-one}
-use Rattle.conditions.proofs.Skipping.{walk_begins, scale-some, walk-on, walk-stops}
+use Rattle.conditions.proofs.Skipping.{walk_begins, scale-some, tag-below, walk-on, walk-stops}
 use Rattle.conditions.proofs.product.barren_from.Goals as goal
 
 pub loop-i-init : goal.loop-i-init
 loop-i-init c = walk_begins places _ _
 
-pub nonzero_div-tag : goal.nonzero_div-tag
-nonzero_div-tag c = scale-some places _ _ (c.loop-i.i - 1) (omega arith) c.loop-i.invariant
+pub of-tag-requires : goal.of-tag-requires
+of-tag-requires c = tag-below places _ _ (c.loop-i.i - 1) (omega arith) c.loop-i.invariant
+
+pub nonzero_div-rest : goal.nonzero_div-rest
+nonzero_div-rest c = scale-some places _ _ (c.loop-i.i - 1) (omega arith) c.loop-i.invariant
 
 pub nonzero_rem-rest-in-loop-i : goal.nonzero_rem-rest-in-loop-i
 nonzero_rem-rest-in-loop-i c = scale-some places _ _ (c.loop-i.i - 1) (omega arith) c.loop-i.invariant
@@ -27,11 +30,10 @@ overflow_sub-result c =
 pub returns-then-is_barren : goal.returns-then-is_barren
 returns-then-is_barren c =
     let at-loop = c.loop-i in
-    let some = scale-some places _ _ (at-loop.i - 1) (omega arith) at-loop.invariant in
-    record {
-      none_prime = walk-stops places _ _ (at-loop.i - 1) (omega arith) at-loop.invariant (c.is_barren.ensures c.if-is_barren.true);
-      c_value = (λ e. absurd (omega (arith, mod-lt at-loop.rest some)));
-    }
+    let some = scale-some places _ _ (at-loop.i - 1) (omega arith) at-loop.invariant in (
+      omega (arith, mod-lt at-loop.rest some),
+      walk-stops places _ _ (at-loop.i - 1) (omega arith) at-loop.invariant (λ q t. c.is_barren.ensures c.if-is_barren.true q (t ∙ sym c.of-tag.ensures)),
+    )
 
 pub narrowed-set-requires : goal.narrowed-set-requires
 narrowed-set-requires c = omega (arith, c.loop-i.invariant.up_to)
@@ -39,16 +41,10 @@ narrowed-set-requires c = omega (arith, c.loop-i.invariant.up_to)
 pub loop-i-preserved : goal.loop-i-preserved
 loop-i-preserved c =
     let at-loop = c.loop-i in
-    walk-on places _ _ _ (omega arith) at-loop.invariant c.narrowed-set.ensures
+    walk-on places _ _ _ (omega arith) at-loop.invariant (λ q t. c.narrowed-set.ensures q (t ∙ sym c.of-tag.ensures))
 
 pub returns-then-is_prime : goal.returns-then-is_prime
-returns-then-is_prime c = record {
-  none_prime = (λ j h. absurd (omega arith));
-  c_value = (λ e. sym c.is_prime.ensures ∙ c.if-is_prime.true);
-}
+returns-then-is_prime c = sym c.is_prime.ensures ∙ c.if-is_prime.true
 
 pub returns : goal.returns
-returns c = record {
-  none_prime = none-one places _ _ (sym c.is_prime.ensures ∙ c.if-is_prime.false);
-  c_value = (λ e. absurd (omega arith));
-}
+returns c = (omega arith, none-one places _ _ (sym c.is_prime.ensures ∙ c.if-is_prime.false))

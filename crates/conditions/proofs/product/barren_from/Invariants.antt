@@ -5,6 +5,3 @@ use Rattle.conditions.proofs.product.barren_from.Given as goal
 
 abbrev pub invariant-loop-i : goal.invariant-loop-i
 invariant-loop-i l = Walk places l.c.0 l.p l.i l.set l.rest l.scale
-
-abbrev pub decreases-loop-i : goal.decreases-loop-i
-decreases-loop-i l = l.i

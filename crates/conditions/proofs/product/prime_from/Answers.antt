@@ -6,23 +6,23 @@ use Rattle.conditions.proofs.product.prime_from.Goals as goal
 pub loop-p-init : goal.loop-p-init
 loop-p-init c = (omega arith, omega arith, (λ j h. absurd (omega arith)))
 
-pub returns-then-barren-eq0 : goal.returns-then-barren-eq0
-returns-then-barren-eq0 c =
+pub returns-in_default : goal.returns-in_default
+returns-in_default c =
     let at-loop = c.loop-p in
-    is-next places _ _ _ _ at-loop.invariant.0 at-loop.invariant.1 at-loop.invariant.2 (λ h. c.barren_from-barren.ensures.c_value c.if-barren-eq0.true)
+    is-next places _ _ _ _ at-loop.invariant.0 at-loop.invariant.1 at-loop.invariant.2 (λ h. c.in_default.ensures)
 
 pub returns-then-limit-p : goal.returns-then-limit-p
 returns-then-limit-p c =
     let at-loop = c.loop-p in
-    is-next places _ _ _ _ (omega arith) (omega arith) (none-on places _ _ _ _ _ at-loop.invariant.0 at-loop.invariant.2 c.barren_from-barren.ensures.none_prime (omega arith)) (λ h. absurd (omega arith))
+    is-next places _ _ _ _ (omega arith) (omega arith) (none-on places _ _ _ _ _ at-loop.invariant.0 at-loop.invariant.2 c.in-Some.ensures.1 (omega arith)) (λ h. absurd (omega arith))
 
 pub loop-p-smaller : goal.loop-p-smaller
-loop-p-smaller c = omega arith
+loop-p-smaller c = omega (arith, c.in-Some.ensures.0)
 
 pub loop-p-preserved : goal.loop-p-preserved
 loop-p-preserved c =
     let at-loop = c.loop-p in
-    (omega arith, omega arith, none-on places _ _ _ _ _ at-loop.invariant.0 at-loop.invariant.2 c.barren_from-barren.ensures.none_prime (omega arith))
+    (omega arith, omega arith, none-on places _ _ _ _ _ at-loop.invariant.0 at-loop.invariant.2 c.in-Some.ensures.1 (omega arith))
 
 pub returns : goal.returns
 returns c =

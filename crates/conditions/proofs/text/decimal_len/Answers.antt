@@ -10,5 +10,5 @@ put_decimal-requires c = omega (arith, decimal-le 19 c.args.n (omega arith))
 pub returns : goal.returns
 returns c = record {
   value = search rules;
-  upper_bound = omega (arith, c.put_decimal.ensures.ends, decimal-le 19 c.args.n (omega arith));
+  upper_bound = omega (arith, c.put_decimal.ensures.put.ends, decimal-le 19 c.args.n (omega arith));
 }

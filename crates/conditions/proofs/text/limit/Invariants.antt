@@ -7,7 +7,4 @@ use Rattle.conditions.specs.Conditions.{depends_on}
 use Rattle.conditions.proofs.text.limit.Given as goal
 
 abbrev pub invariant-loop-i : goal.invariant-loop-i
-invariant-loop-i l = (l.i ≤ places) × ((j : ℕ) → l.i ≤ j → j < places → depends_on places l.c.0 j ≡ false)
-
-abbrev pub decreases-loop-i : goal.decreases-loop-i
-decreases-loop-i l = l.i
+invariant-loop-i l = (j : ℕ) → l.i ≤ j → j < places → depends_on places l.c.0 j ≡ false

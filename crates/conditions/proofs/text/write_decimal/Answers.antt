@@ -1,5 +1,7 @@
 -- The number is put where there is room for it.
+use mathlib.Core.Path.{sym}
 use native.Mathlib.Omega.{arith}
+use Rattle.std.proofs.lemmas.Grind.{common_steps}
 use Rattle.conditions.specs.Text.{decimal}
 use Rattle.conditions.proofs.Putting.{fits, refused, accepted}
 use Rattle.conditions.proofs.text.write_decimal.Goals as goal
@@ -12,7 +14,11 @@ returns-then-not-room c =
 pub put_decimal-requires : goal.put_decimal-requires
 put_decimal-requires c = omega (arith, fits c.args.buf.now c.args.at (decimal c.args.n) c.decimal_len.ensures.value c.room.ensures c.if-not-room.false-raw)
 
-pub returns : goal.returns
-returns c =
-    let both = accepted c.decimal_len.ensures.value c.room.ensures c.if-not-room.false-raw c.put_decimal.ensures in
-    record { value = both.0; buf_after = both.1 }
+pub returns-clause-value : goal.returns-clause-value
+returns-clause-value c = (accepted c.decimal_len.ensures.value c.room.ensures c.if-not-room.false-raw c.put_decimal.ensures.put).0
+
+pub returns-clause-buf_after : goal.returns-clause-buf_after
+returns-clause-buf_after c =
+    let is = (accepted c.decimal_len.ensures.value c.room.ensures c.if-not-room.false-raw c.put_decimal.ensures.put).1 in
+    let lent = sym c.put_decimal.ensures.lent in
+    grind (arith, common_steps)

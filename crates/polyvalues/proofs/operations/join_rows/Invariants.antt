@@ -1,6 +1,6 @@
 -- The loop's invariant: joining the rows from i on into what is done gives what is asked.
 use mathlib.Core.Path.{◌≡◌}
-use Prim.Native.Nat.{◌≤◌, ◌-◌}
+use Prim.Native.Nat.{◌≤◌}
 use lib.ListN.{length, drop}
 use Rattle.conditions.specs.Places.{places}
 use Rattle.polyvalues.specs.Polyvalues.{most_pairs, in_use, packed}
@@ -10,9 +10,6 @@ use Rattle.polyvalues.proofs.operations.join_rows.Given as goal
 
 abbrev pub invariant-loop-i : goal.invariant-loop-i
 invariant-loop-i l =
-    (l.i ≤ l.n) × (l.done ≡ packed (in_use l.done)) × (length (in_use l.done) ≤ most_pairs)
+    (l.done ≡ packed (in_use l.done)) × (length (in_use l.done) ≤ most_pairs)
     × (simplified_from places (in_use l.done) (changed (cut places l.place.0 l.how) (drop l.i (in_use l.rows)))
-    ≡ simplified_from places (in_use l.start) (changed (cut places l.place.0 l.how) (in_use l.rows)))
-
-abbrev pub decreases-loop-i : goal.decreases-loop-i
-decreases-loop-i l = l.n - l.i
+    ≡ simplified_from places (in_use l.fn.start) (changed (cut places l.place.0 l.how) (in_use l.rows)))

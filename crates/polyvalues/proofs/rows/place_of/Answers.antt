@@ -7,21 +7,18 @@ use Rattle.polyvalues.specs.Values.{below}
 use Rattle.polyvalues.proofs.rows.place_of.Goals as goal
 
 pub loop-k-init : goal.loop-k-init
-loop-k-init c = (omega arith, (λ j h. absurd (omega arith)))
-
-pub row-row-requires : goal.row-row-requires
-row-row-requires c = omega arith
+loop-k-init c = λ j h. absurd (omega arith)
 
 pub returns-then-not-below : goal.returns-then-not-below
 returns-then-not-below c =
     record {
-      within = c.loop-k.invariant.0;
-      before = c.loop-k.invariant.1;
+      within = omega arith;
+      before = c.loop-k.invariant;
       stops = λ h. ap (λ (p : Pair). below p.value c.args.new.value) (sym c.row-row.ensures) ∙ sym c.below.ensures ∙ not-true _ c.if-not-below.true-raw;
     }
 
 pub loop-k-preserved : goal.loop-k-preserved
-loop-k-preserved c = (omega arith, below_more _ _ c.loop-k.invariant.1 (ap (λ (p : Pair). below p.value c.args.new.value) (sym c.row-row.ensures) ∙ sym c.below.ensures ∙ not-false _ c.if-not-below.false-raw))
+loop-k-preserved c = (below_more _ _ c.loop-k.invariant (ap (λ (p : Pair). below p.value c.args.new.value) (sym c.row-row.ensures) ∙ sym c.below.ensures ∙ not-false _ c.if-not-below.false-raw))
 
 pub returns : goal.returns
-returns c = record { within = c.loop-k.invariant.0; before = c.loop-k.invariant.1; stops = λ h. absurd (omega arith) }
+returns c = record { within = omega arith; before = λ j h. c.loop-k.invariant j (omega arith); stops = λ h. absurd (omega arith) }

@@ -1,13 +1,10 @@
 -- The loop's invariant: the value of each row before k is below the new one's.
 use mathlib.Core.Path.{◌≡◌}
 use mathlib.Core.Bool.{true}
-use Prim.Native.Nat.{ℕ, ◌≤◌, ◌<◌, ◌-◌}
+use Prim.Native.Nat.{ℕ, ◌<◌}
 use Rattle.polyvalues.specs.Values.{below}
 use Rattle.polyvalues.specs.Rows.{value_at}
 use Rattle.polyvalues.proofs.rows.place_of.Given as goal
 
 abbrev pub invariant-loop-k : goal.invariant-loop-k
-invariant-loop-k l = (l.k ≤ l.q.count) × ((j : ℕ) → j < l.k → below (value_at l.q j) l.new.value ≡ true)
-
-abbrev pub decreases-loop-k : goal.decreases-loop-k
-decreases-loop-k l = l.q.count - l.k
+invariant-loop-k l = (j : ℕ) → j < l.k → below (value_at l.q j) l.new.value ≡ true

@@ -3,8 +3,8 @@ use mathlib.Core.Path.{sym, ◌∙◌}
 use Rattle.conditions.proofs.Putting.{written-put, never-refused}
 use Rattle.polyvalues.proofs.text.put_condition.Goals as goal
 
-pub returns-in_default : goal.returns-in_default
-returns-in_default c = absurd (never-refused _ _ _ c.requires (sym c.in_default.is ∙ c.write_text.ensures.value))
+pub unwrap-requires : goal.unwrap-requires
+unwrap-requires c = never-refused _ _ _ c.requires c.write_text.ensures.value
 
 pub returns : goal.returns
-returns c = written-put c.requires (sym c.in-To.is ∙ c.write_text.ensures.value) c.write_text.ensures.buf_after
+returns c = written-put c.requires (sym c.unwrap.ensures ∙ c.write_text.ensures.value) c.write_text.ensures.buf_after

@@ -15,22 +15,16 @@ pub put_decimal-end-requires : goal.put_decimal-end-requires
 put_decimal-end-requires c = omega (arith, c.requires, line-length places (number_at c.args.numbers) (in_use c.args.q), ap (λ (k : ℕ). length (decimal k)) c.len-n.ensures.value)
 
 pub loop-i-init : goal.loop-i-init
-loop-i-init c = (omega arith, line-begun places _ _ c.len-n.ensures.value c.put_decimal-end.ensures c.requires)
-
-pub row-row-requires : goal.row-row-requires
-row-row-requires c = omega (arith, c.len-n.ensures.upper_bound)
+loop-i-init c = (line-begun places _ _ c.len-n.ensures.value c.put_decimal-end.ensures c.requires)
 
 pub put_byte-end-requires : goal.put_byte-end-requires
-put_byte-end-requires c = omega (arith, begun-room places _ _ c.loop-i.invariant.1 (omega (arith, c.len-n.ensures.value)))
+put_byte-end-requires c = omega (arith, begun-room places _ _ c.loop-i.invariant (omega (arith, c.len-n.ensures.value)))
 
 pub put_pair-end-requires : goal.put_pair-end-requires
-put_pair-end-requires c = omega (arith, begun-room places _ _ c.loop-i.invariant.1 (omega (arith, c.len-n.ensures.value)), c.put_byte-end.ensures.ends, put-length c.put_byte-end.ensures, ap (λ (p : Pair). length (pair_text places (number_at c.args.numbers) p)) c.row-row.ensures)
-
-pub loop-i-smaller : goal.loop-i-smaller
-loop-i-smaller c = omega arith
+put_pair-end-requires c = omega (arith, begun-room places _ _ c.loop-i.invariant (omega (arith, c.len-n.ensures.value)), c.put_byte-end.ensures.ends, put-length c.put_byte-end.ensures, ap (λ (p : Pair). length (pair_text places (number_at c.args.numbers) p)) c.row-row.ensures)
 
 pub loop-i-preserved : goal.loop-i-preserved
-loop-i-preserved c = (omega arith, begun_more places _ _ c.loop-i.invariant.1 (omega (arith, c.len-n.ensures.value)) c.put_byte-end.ensures (rw c.row-row.ensures at c.put_pair-end.ensures))
+loop-i-preserved c = (begun_more places _ _ c.loop-i.invariant (omega (arith, c.len-n.ensures.value)) c.put_byte-end.ensures (rw c.row-row.ensures at c.put_pair-end.ensures))
 
 pub returns : goal.returns
-returns c = line-done places _ _ c.len-n.ensures.value c.put_decimal-end.ensures c.loop-i.invariant.1 (omega (arith, c.len-n.ensures.value))
+returns c = line-done places _ _ c.len-n.ensures.value c.put_decimal-end.ensures c.loop-i.invariant (omega (arith, c.len-n.ensures.value))

@@ -1,12 +1,8 @@
 -- The loop's invariant: the line is begun, up to row i.
-use Prim.Native.Nat.{◌≤◌, ◌-◌}
 use Rattle.conditions.specs.Places.{places}
 use Rattle.conditions.specs.Text.{number_at}
 use Rattle.polyvalues.proofs.Texts.{Begun}
 use Rattle.polyvalues.proofs.text.put_line.Given as goal
 
 abbrev pub invariant-loop-i : goal.invariant-loop-i
-invariant-loop-i l = (l.i ≤ l.n) × Begun places (number_at l.numbers) l.q l.initial.buf l.buf l.initial.end l.end l.i
-
-abbrev pub decreases-loop-i : goal.decreases-loop-i
-decreases-loop-i l = l.n - l.i
+invariant-loop-i l = Begun places (number_at l.numbers) l.q l.initial.buf l.buf l.initial.end l.end l.i

@@ -5,14 +5,13 @@ use Rattle.conditions.proofs.Laws.Text.{decimal-le}
 use Rattle.conditions.proofs.Putting.{written-put, never-refused}
 use Rattle.sheet.proofs.lines.put_decimal.Goals as goal
 
-pub returns-in_default : goal.returns-in_default
-returns-in_default c =
-    absurd (never-refused _ _ _ (omega (arith, c.requires, decimal-le 19 c.args.n (omega arith))) (sym c.in_default.is ∙ c.write_decimal.ensures.value))
+pub unwrap-requires : goal.unwrap-requires
+unwrap-requires c = never-refused _ _ _ (omega (arith, c.requires, decimal-le 19 c.args.n (omega arith))) c.write_decimal.ensures.value
 
 pub returns : goal.returns
 returns c =
     let few = decimal-le 19 c.args.n (omega arith) in
-    let put = written-put (omega (arith, c.requires)) (sym c.in-To.is ∙ c.write_decimal.ensures.value) c.write_decimal.ensures.buf_after in
+    let put = written-put (omega (arith, c.requires)) (sym c.unwrap.ensures ∙ c.write_decimal.ensures.value) c.write_decimal.ensures.buf_after in
     record {
       put = put;
       upper_bound = omega (arith, put.ends);

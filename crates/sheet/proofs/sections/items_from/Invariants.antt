@@ -1,16 +1,16 @@
--- The loop's invariant: the items so far stand in the first rows, and what is left to read tells all.
+-- The loop's invariant: what is left to read, after the items in the rows so far, tells all.
 use mathlib.Core.Path.{◌≡◌}
-use mathlib.Core.List.{List, []}
-use Prim.Native.Nat.{◌≤◌, ◌-◌}
-use lib.ListN.{length, drop}
-use Rattle.book.specs.declared.Opening.{Opening}
+use mathlib.Core.List.{[]}
+use Prim.Native.Nat.{◌-◌}
+use lib.ListN.{length, take, drop}
 use Rattle.sheet.specs.Readers.{repeat, one_more}
 use Rattle.sheet.specs.Sections.{item}
-use Rattle.sheet.proofs.Repeating.{in_rows}
 use Rattle.sheet.proofs.sections.items_from.Given as goal
 
-abbrev pub invariant-loop-i : goal.invariant-loop-i
-invariant-loop-i l = (l.i ≤ l.n) × ((xs : List Opening) × (length xs ≡ l.i) × (l.rows ≡ in_rows xs) × (repeat l.n (one_more (item l.districts)) [] l.start (drop l.start l.sheet) ≡ repeat (l.n - l.i) (one_more (item l.districts)) xs l.at (drop l.at l.sheet)))
-
-abbrev pub decreases-loop-i : goal.decreases-loop-i
-decreases-loop-i l = l.n - l.i
+abbrev pub invariant-loop-row : goal.invariant-loop-row
+invariant-loop-row l = record {
+  rows : length l.row-items ≡ l.n;
+  turns : l.row-index-end ≡ l.n;
+  tells : repeat l.n (one_more (item l.districts)) [] l.start (drop l.start l.sheet)
+      ≡ repeat (l.n - l.row-index) (one_more (item l.districts)) (take l.row-index l.row-items) l.at (drop l.at l.sheet);
+}

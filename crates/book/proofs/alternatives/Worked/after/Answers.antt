@@ -1,37 +1,19 @@
 -- A run that declines, and one that does not.
-use mathlib.Core.Path.{sym, ◌∙◌}
 use Rattle.book.specs.Book.{most_items}
 use Rattle.book.specs.States.{steps_of}
 use Rattle.book.proofs.Naming.{inside-more}
-use Rattle.book.proofs.Working.{no_room, covers-granted, covers-declined}
+use Rattle.book.proofs.Working.{no_room, covers_more}
 use Rattle.book.proofs.alternatives.Worked.after.Goals as goal
 
 pub run-end-requires : goal.run-end-requires
 run-end-requires c = inside-more c.args.count most_items c.requires.0 (steps_of c.args.p) c.requires.1
 
-pub joined_in-spread-requires : goal.joined_in-spread-requires
-joined_in-spread-requires c = c.requires.0
-
-pub returns-then-is_ok : goal.returns-then-is_ok
-returns-then-is_ok c =
+pub returns-in_err-new-clause-covers : goal.returns-in_err-new-clause-covers
+returns-in_err-new-clause-covers c b k e s h covers condition starts =
     let a = c.args in
-    let pre = c.requires in
-    let spread = c.joined_in-spread in record {
-      covered_value = c.union-covered.ensures;
-      covers = λ b k e s h covers condition starts. (
-        (λ f. covers-granted b (steps_of a.p) s (rw e pre.1) k h covers a.start.state starts c.run-end.ensures.answer c.run-end.ensures.values condition spread.result (rw e spread.ensures.fits_value) (rw e (spread.ensures.rows_after f)) f c.union-covered.ensures (sym c.is_ok.ensures.value ∙ c.if-is_ok.true)),
-        (λ f. no_room b (steps_of a.p) s (rw e pre.1) k h covers a.start.state starts c.run-end.ensures.answer c.run-end.ensures.values condition spread.result (rw e spread.ensures.fits_value) f),
-      );
-    }
+    rw c.from_residual.ensures (no_room b (steps_of a.p) s (rw e c.requires.1) k h covers a.start.state starts c.run-end.ensures.answer c.run-end.ensures.values condition (rw e c.in_err-new.ensures.fits_value))
 
-pub returns : goal.returns
-returns c =
+pub returns-clause-covers : goal.returns-clause-covers
+returns-clause-covers c b k e s h covers condition starts =
     let a = c.args in
-    let pre = c.requires in
-    let spread = c.joined_in-spread in record {
-      covered_value = c.union-covered.ensures;
-      covers = λ b k e s h covers condition starts. (
-        (λ f. covers-declined b (steps_of a.p) s (rw e pre.1) k h covers a.start.state starts c.run-end.ensures.answer c.run-end.ensures.values condition spread.result (rw e spread.ensures.fits_value) (rw e (spread.ensures.rows_after f)) f c.union-covered.ensures (sym c.is_ok.ensures.value ∙ c.if-is_ok.false)),
-        (λ f. no_room b (steps_of a.p) s (rw e pre.1) k h covers a.start.state starts c.run-end.ensures.answer c.run-end.ensures.values condition spread.result (rw e spread.ensures.fits_value) f),
-      );
-    }
+    covers_more b (steps_of a.p) s (rw e c.requires.1) k h covers a.start.state starts c.run-end.ensures.answer c.run-end.ensures.values condition (rw e c.in_ok-new.ensures.rows_after) c.union.ensures c.is_ok-grants.ensures.value

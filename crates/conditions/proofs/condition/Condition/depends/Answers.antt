@@ -9,4 +9,4 @@ use Rattle.conditions.proofs.condition.Condition.depends.Goals as goal
 
 pub returns : goal.returns
 returns c =
-    ap₂ (λ (x y : ℕ). not (eqb x y)) c.reduce.ensures c.reduce-2.ensures ∙ sym (depends-reduced places _ _)
+    c.ne.ensures ∙ ap₂ (λ (x y : ℕ). not (eqb x y)) c.reduce.ensures c.reduce-2.ensures ∙ sym (depends-reduced places _ _)

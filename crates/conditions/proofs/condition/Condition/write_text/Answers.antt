@@ -1,5 +1,7 @@
 -- The condition is put where there is room for it.
+use mathlib.Core.Path.{sym}
 use native.Mathlib.Omega.{arith}
+use Rattle.std.proofs.lemmas.Grind.{common_steps}
 use Rattle.conditions.specs.Places.{places}
 use Rattle.conditions.specs.Text.{number_at, condition_text}
 use Rattle.conditions.proofs.Putting.{fits, refused, accepted}
@@ -13,7 +15,11 @@ returns-then-not-room c =
 pub put_condition-requires : goal.put_condition-requires
 put_condition-requires c = omega (arith, fits c.args.buf.now c.args.at (condition_text places (number_at c.args.numbers) c.args.self.0) c.text_len.ensures.value c.room.ensures c.if-not-room.false-raw)
 
-pub returns : goal.returns
-returns c =
-    let both = accepted c.text_len.ensures.value c.room.ensures c.if-not-room.false-raw c.put_condition.ensures.put in
-    record { value = both.0; buf_after = both.1 }
+pub returns-clause-value : goal.returns-clause-value
+returns-clause-value c = (accepted c.text_len.ensures.value c.room.ensures c.if-not-room.false-raw c.put_condition.ensures.put.put).0
+
+pub returns-clause-buf_after : goal.returns-clause-buf_after
+returns-clause-buf_after c =
+    let is = (accepted c.text_len.ensures.value c.room.ensures c.if-not-room.false-raw c.put_condition.ensures.put.put).1 in
+    let lent = sym c.put_condition.ensures.put.lent in
+    grind (arith, common_steps)

@@ -10,19 +10,18 @@ use Rattle.conditions.proofs.Laws.Products.{tags-after, allows-none, allows-more
 use Rattle.conditions.proofs.product.Product.by_tags.Goals as goal
 
 pub loop-place-init : goal.loop-place-init
-loop-place-init c = (omega arith, always-full ∙ allows-none places _, sym (div-one _))
+loop-place-init c = (always-full ∙ allows-none places _, sym (div-one _))
 
 pub loop-place-preserved : goal.loop-place-preserved
 unfolding tag_at
 loop-place-preserved c =
     let at-loop = c.loop-place in (
-      omega arith,
-      rw add-one (allows-more places _ _ at-loop.invariant.1 (ap (λ (q : ℕ). q % 3) at-loop.invariant.2) c.tagged-set.ensures),
-      tags-after _ _ at-loop.invariant.2,
+      rw add-one (allows-more places _ _ at-loop.invariant.0 (c.of.ensures ∙ ap (λ (q : ℕ). q % 3) at-loop.invariant.1) c.tagged-set.ensures),
+      tags-after _ _ at-loop.invariant.1,
     )
 
 pub returns : goal.returns
 unfolding allowed
 returns c =
     let last : c.loop-place.place ≡ places = omega arith in
-    rw last at c.loop-place.invariant.1
+    rw last at c.loop-place.invariant.0

@@ -1,6 +1,5 @@
 -- The loop's invariant: what is asked depends on the rows from i on.
 use mathlib.Core.Path.{◌≡◌}
-use Prim.Native.Nat.{◌≤◌, ◌-◌}
 use lib.ListN.{drop}
 use Rattle.conditions.specs.Places.{places}
 use Rattle.polyvalues.specs.Pairs.{depends}
@@ -8,7 +7,4 @@ use Rattle.polyvalues.specs.Polyvalues.{in_use}
 use Rattle.polyvalues.proofs.polyvalue.Polyvalue.depends.Given as goal
 
 abbrev pub invariant-loop-i : goal.invariant-loop-i
-invariant-loop-i l = (l.i ≤ l.n) × (depends places (drop l.i (in_use l.self)) l.place.0 ≡ depends places (in_use l.self) l.place.0)
-
-abbrev pub decreases-loop-i : goal.decreases-loop-i
-decreases-loop-i l = l.n - l.i
+invariant-loop-i l = depends places (drop l.i (in_use l.self)) l.place.0 ≡ depends places (in_use l.self) l.place.0

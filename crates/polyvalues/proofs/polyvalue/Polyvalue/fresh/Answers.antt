@@ -8,27 +8,24 @@ use Rattle.polyvalues.specs.Operations.{different, together}
 use Rattle.polyvalues.proofs.polyvalue.Polyvalue.fresh.Goals as goal
 
 pub loop-i-init : goal.loop-i-init
-loop-i-init c = (omega arith, omega arith, omega arith)
+loop-i-init c = (omega arith, omega arith)
 
 pub adds-count-requires : goal.adds-count-requires
-adds-count-requires c = omega (arith, c.len-n.ensures.value)
+adds-count-requires c = omega (arith, c.len-i-end.ensures.value)
 
 pub overflow_add-count : goal.overflow_add-count
-overflow_add-count c = record { fits = omega (arith, c.adds-count.ensures.upper_bound, c.loop-i.invariant.1, c.len-n.ensures.upper_bound) }
-
-pub loop-i-smaller : goal.loop-i-smaller
-loop-i-smaller c = omega arith
+overflow_add-count c = record { fits = omega (arith, c.adds-count.ensures.upper_bound, c.loop-i.invariant.0, c.len-i-end.ensures.upper_bound) }
 
 pub loop-i-preserved : goal.loop-i-preserved
 unfolding different
 loop-i-preserved c =
-    let row = rw (drop-cons (in_use c.args.self) c.loop-i.i no_pair (omega (arith, c.len-n.ensures.value))) at c.loop-i.invariant.2 in
-    (omega arith, omega (arith, c.adds-count.ensures.upper_bound, c.loop-i.invariant.1), rw add-one (omega (arith, row, c.adds-count.ensures.value)))
+    let row = rw (drop-cons (in_use c.args.self) c.loop-i.i no_pair (omega (arith, c.len-i-end.ensures.value))) at c.loop-i.invariant.1 in
+    (omega (arith, c.adds-count.ensures.upper_bound, c.loop-i.invariant.0), rw add-one (omega (arith, row, c.adds-count.ensures.value)))
 
 pub returns : goal.returns
 unfolding together
 returns c =
     record {
-      other_value = rw (drop_of_length-le (in_use c.args.self) {i = c.loop-i.i} (omega (arith, c.len-n.ensures.value))) at c.loop-i.invariant.2;
-      upper_bound = omega (arith, c.loop-i.invariant.1, c.len-n.ensures.upper_bound);
+      other_value = rw (drop_of_length-le (in_use c.args.self) {i = c.loop-i.i} (omega (arith, c.len-i-end.ensures.value))) at c.loop-i.invariant.1;
+      upper_bound = omega (arith, c.loop-i.invariant.0, c.len-i-end.ensures.upper_bound);
     }

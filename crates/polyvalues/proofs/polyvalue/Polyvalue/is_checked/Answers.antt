@@ -13,24 +13,18 @@ use Rattle.polyvalues.proofs.polyvalue.Polyvalue.is_checked.Goals as goal
 pub loop-i-init : goal.loop-i-init
 loop-i-init c = refl
 
-pub row-row-requires : goal.row-row-requires
-row-row-requires c = omega (arith, c.len-n.ensures.upper_bound)
-
 pub returns-then-not-follows : goal.returns-then-not-follows
 unfolding checked_from
-returns-then-not-follows c = rw (in_use-more c.args.self c.loop-i.i c.row-row.ensures (omega (arith, c.len-n.ensures.value)), sym c.follows.ensures ∙ not-true _ c.if-not-follows.true-raw) at c.loop-i.invariant
-
-pub loop-i-smaller : goal.loop-i-smaller
-loop-i-smaller c = omega arith
+returns-then-not-follows c = rw (in_use-more c.args.self c.loop-i.i c.row-row.ensures (omega (arith, c.len-i-end.ensures.value)), sym c.follows.ensures ∙ not-true _ c.if-not-follows.true-raw) at c.loop-i.invariant
 
 pub loop-i-preserved : goal.loop-i-preserved
 unfolding checked_from
 loop-i-preserved c =
     rw (add-one, c.union-covered.ensures)
-    (rw (in_use-more c.args.self c.loop-i.i c.row-row.ensures (omega (arith, c.len-n.ensures.value)), sym c.follows.ensures ∙ not-false _ c.if-not-follows.false-raw) at c.loop-i.invariant)
+    (rw (in_use-more c.args.self c.loop-i.i c.row-row.ensures (omega (arith, c.len-i-end.ensures.value)), sym c.follows.ensures ∙ not-false _ c.if-not-follows.false-raw) at c.loop-i.invariant)
 
 pub returns : goal.returns
 unfolding checked_from
 returns c =
     c.same.ensures ∙ ap (eqb c.loop-i.covered.0) always-full
-    ∙ rw (drop_of_length-le (in_use c.args.self) {i = c.loop-i.i} (omega (arith, c.len-n.ensures.value))) at c.loop-i.invariant
+    ∙ rw (drop_of_length-le (in_use c.args.self) {i = c.loop-i.i} (omega (arith, c.len-i-end.ensures.value))) at c.loop-i.invariant

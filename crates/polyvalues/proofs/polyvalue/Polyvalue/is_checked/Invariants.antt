@@ -1,6 +1,5 @@
 -- The loop's invariant: what is asked is asked of the rows from i on, after the last row and what is covered.
 use mathlib.Core.Path.{◌≡◌}
-use Prim.Native.Nat.{◌-◌}
 use lib.ListN.{drop}
 use Rattle.conditions.specs.Places.{places}
 use Rattle.polyvalues.specs.Polyvalues.{in_use}
@@ -9,6 +8,3 @@ use Rattle.polyvalues.proofs.polyvalue.Polyvalue.is_checked.Given as goal
 
 abbrev pub invariant-loop-i : goal.invariant-loop-i
 invariant-loop-i l = checked_from places l.last.value l.covered.0 (drop l.i (in_use l.self)) ≡ checked_from places below_all 0 (in_use l.self)
-
-abbrev pub decreases-loop-i : goal.decreases-loop-i
-decreases-loop-i l = l.n - l.i

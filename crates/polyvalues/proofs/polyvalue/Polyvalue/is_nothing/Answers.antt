@@ -12,17 +12,11 @@ use Rattle.polyvalues.proofs.polyvalue.Polyvalue.is_nothing.Goals as goal
 pub loop-i-init : goal.loop-i-init
 loop-i-init c = let held : Held c.args.self = record { values = _; own = c.well_formed.0 } in (held-long held, refl)
 
-pub row-row-requires : goal.row-row-requires
-row-row-requires c = omega arith
-
-pub loop-i-smaller : goal.loop-i-smaller
-loop-i-smaller c = omega arith
-
 pub loop-i-preserved : goal.loop-i-preserved
 loop-i-preserved c =
     let at-loop = c.loop-i in (
       at-loop.invariant.0,
-      rw (add-one, c.is_blank-blank.ensures) (and_assoc at-loop.none _ _
+      rw (add-one, c.is_blank-none.ensures) (and_assoc at-loop.none _ _
           ∙ rw (drop-cons (rows_of c.args.self) at-loop.i no_pair (omega (arith, at-loop.invariant.0)), ← c.row-row.ensures) at at-loop.invariant.1),
     )
 

@@ -1,7 +1,6 @@
 -- The loop's invariant: what is asked is asked of the rows from i on, where those before it were blank.
 use mathlib.Core.Path.{◌≡◌}
 use mathlib.Core.Bool.{◌&&◌}
-use Prim.Native.Nat.{◌-◌}
 use lib.Dec.{eqb}
 use lib.ListN.{length, drop}
 use Rattle.polyvalues.specs.Pairs.{blank}
@@ -10,6 +9,3 @@ use Rattle.polyvalues.proofs.polyvalue.Polyvalue.is_nothing.Given as goal
 
 abbrev pub invariant-loop-i : goal.invariant-loop-i
 invariant-loop-i l = (length (rows_of l.self) ≡ most_pairs) × ((l.none && each blank (drop l.i (rows_of l.self))) ≡ (eqb l.self.count 0 && each blank (rows_of l.self)))
-
-abbrev pub decreases-loop-i : goal.decreases-loop-i
-decreases-loop-i l = most_pairs - l.i

@@ -12,15 +12,9 @@ use Rattle.polyvalues.proofs.polyvalue.Polyvalue.is_tidy.Goals as goal
 pub loop-i-init : goal.loop-i-init
 loop-i-init c = let held : Held c.args.self = record { values = _; own = c.well_formed.0 } in (held-long held, refl)
 
-pub row-row-requires : goal.row-row-requires
-row-row-requires c = omega arith
-
 pub returns-then-not-is_blank : goal.returns-then-not-is_blank
 unfolding tidy
 returns-then-not-is_blank c = rw (drop-cons (rows_of c.args.self) c.loop-i.i no_pair (omega (arith, c.loop-i.invariant.0)), ← c.row-row.ensures, sym c.is_blank.ensures ∙ not-true _ c.if-not-is_blank.true-raw) at c.loop-i.invariant.1
-
-pub loop-i-smaller : goal.loop-i-smaller
-loop-i-smaller c = omega arith
 
 pub loop-i-preserved : goal.loop-i-preserved
 loop-i-preserved c = (c.loop-i.invariant.0, rw add-one (rw (drop-cons (rows_of c.args.self) c.loop-i.i no_pair (omega (arith, c.loop-i.invariant.0)), ← c.row-row.ensures, sym c.is_blank.ensures ∙ not-false _ c.if-not-is_blank.false-raw) at c.loop-i.invariant.1))

@@ -9,17 +9,11 @@ use Rattle.polyvalues.proofs.polyvalue.Polyvalue.occurs.Goals as goal
 pub loop-i-init : goal.loop-i-init
 loop-i-init c = refl
 
-pub row-row-requires : goal.row-row-requires
-row-row-requires c = omega (arith, c.len-n.ensures.upper_bound)
-
 pub returns-then-equal : goal.returns-then-equal
-returns-then-equal c = rw (in_use-more c.args.self c.loop-i.i c.row-row.ensures (omega (arith, c.len-n.ensures.value)), sym c.equal.ensures ∙ c.if-equal.true) at c.loop-i.invariant
-
-pub loop-i-smaller : goal.loop-i-smaller
-loop-i-smaller c = omega arith
+returns-then-equal c = rw (in_use-more c.args.self c.loop-i.i c.row-row.ensures (omega (arith, c.len-i-end.ensures.value)), sym c.equal.ensures ∙ c.if-equal.true) at c.loop-i.invariant
 
 pub loop-i-preserved : goal.loop-i-preserved
-loop-i-preserved c = rw add-one (rw (in_use-more c.args.self c.loop-i.i c.row-row.ensures (omega (arith, c.len-n.ensures.value)), sym c.equal.ensures ∙ c.if-equal.false) at c.loop-i.invariant)
+loop-i-preserved c = rw add-one (rw (in_use-more c.args.self c.loop-i.i c.row-row.ensures (omega (arith, c.len-i-end.ensures.value)), sym c.equal.ensures ∙ c.if-equal.false) at c.loop-i.invariant)
 
 pub returns : goal.returns
-returns c = rw (drop_of_length-le (in_use c.args.self) {i = c.loop-i.i} (omega (arith, c.len-n.ensures.value))) at c.loop-i.invariant
+returns c = rw (drop_of_length-le (in_use c.args.self) {i = c.loop-i.i} (omega (arith, c.len-i-end.ensures.value))) at c.loop-i.invariant

@@ -1,11 +1,8 @@
 -- The loop's invariant: the places that the rows before i depend on.
-use Prim.Native.Nat.{◌≤◌, ◌<◌, ◌-◌, ◌^◌}
+use Prim.Native.Nat.{◌<◌, ◌^◌}
 use Rattle.conditions.specs.Places.{places as width}
 use Rattle.polyvalues.proofs.Joining.{PlacesBefore}
 use Rattle.polyvalues.proofs.polyvalue.Polyvalue.places.Given as goal
 
 abbrev pub invariant-loop-i : goal.invariant-loop-i
-invariant-loop-i l = (l.i ≤ l.n) × (l.set < 2 ^ width) × PlacesBefore l.self l.i l.set
-
-abbrev pub decreases-loop-i : goal.decreases-loop-i
-decreases-loop-i l = l.n - l.i
+invariant-loop-i l = (l.set < 2 ^ width) × PlacesBefore l.self l.i l.set

@@ -14,12 +14,6 @@ returns-then-n-len c = same_not (in_use c.args.self) (in_use c.args.other) (λ e
 pub loop-i-init : goal.loop-i-init
 loop-i-init c = (c.if-n-len.false ∙ c.len.ensures.value, refl)
 
-pub row-row-requires : goal.row-row-requires
-row-row-requires c = omega (arith, c.len-n.ensures.upper_bound)
-
-pub row-twin-requires : goal.row-twin-requires
-row-twin-requires c = omega (arith, c.len-n.ensures.upper_bound)
-
 pub returns-then-not-same : goal.returns-then-not-same
 returns-then-not-same c =
     rw (
@@ -27,9 +21,6 @@ returns-then-not-same c =
       in_use-more c.args.other c.loop-i.i c.row-twin.ensures (omega (arith, c.loop-i.invariant.0)),
       sym c.same.ensures ∙ not-true _ c.if-not-same.true-raw,
     ) at c.loop-i.invariant.1
-
-pub loop-i-smaller : goal.loop-i-smaller
-loop-i-smaller c = omega arith
 
 pub loop-i-preserved : goal.loop-i-preserved
 loop-i-preserved c = (

@@ -1,6 +1,5 @@
--- The loop's invariant: what is asked is asked of the scan and the rows from i on.
+-- The loop's invariant: what is asked is asked of the rows from i on.
 use mathlib.Core.Path.{◌≡◌}
-use Prim.Native.Nat.{◌≤◌, ◌-◌}
 use lib.ListN.{drop}
 use Rattle.conditions.specs.Places.{places}
 use Rattle.polyvalues.specs.Pairs.{asked}
@@ -9,7 +8,4 @@ use Rattle.polyvalues.proofs.Asking.{left}
 use Rattle.polyvalues.proofs.polyvalue.Polyvalue.value_under.Given as goal
 
 abbrev pub invariant-loop-i : goal.invariant-loop-i
-invariant-loop-i l = (l.i ≤ l.n) × (left l.scan (drop l.i (in_use l.self)) l.assignment ≡ asked places (in_use l.self) l.assignment)
-
-abbrev pub decreases-loop-i : goal.decreases-loop-i
-decreases-loop-i l = l.n - l.i
+invariant-loop-i l = left l.found (drop l.i (in_use l.self)) l.assignment ≡ asked places (in_use l.self) l.assignment

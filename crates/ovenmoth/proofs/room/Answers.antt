@@ -1,7 +1,0 @@
--- What is written is a part of the buffer.
-use mathlib.Core.Path.{sym}
-use lib.Seq.{length-take-le}
-use Rattle.ovenmoth.proofs.room.Goals as goal
-
-pub slice_bounds-write_all-end : goal.slice_bounds-write_all-end
-slice_bounds-write_all-end c = sym (length-take-le _ _ c.requires)
