@@ -1,4 +1,5 @@
 pub mod Laws
+pub mod Judging
 mod States
 mod Naming
 mod Reading

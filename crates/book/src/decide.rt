@@ -1,17 +1,23 @@
 // Complete and abort: the decision of a transaction.
 ghost use Rattle.std.specs.Prelude.{◌≡◌, true, not, ◌&&◌, ℕ, ◌<◌, ◌≤◌};
+ghost use Rattle.std.specs.Result.{result_and};
 ghost use Rattle.conditions.specs.Below.{any};
 ghost use Rattle.conditions.specs.Sets.{member};
 ghost use Rattle.conditions.specs.Places.{places};
 ghost use Rattle.book.specs.Book.{most_districts, place_of};
 ghost use Rattle.book.specs.Forget.{forget};
-ghost use Rattle.book.specs.Decide.{decide, complete, abort};
+ghost use Rattle.book.specs.Decide.{complete_answer, abort_answer, decide, complete, abort};
 ghost use Rattle.book.specs.SoundTest.{sound};
 
 use crate::sets::has;
-use crate::tables::{FREE, item_depends, place_of, some_on};
+use crate::tables::{FREE, item_depends, some_on};
 use crate::{Book, Done, Open, Refusal};
-use conditions::{PLACES, Place, TransactionNumber};
+use conditions::{Place, TransactionNumber};
+
+// The numbers of the decisions.
+pub(crate) const COMPLETED: u8 = 1;
+
+pub(crate) const ABORTED: u8 = 2;
 
 // Whether the district is touched and has not reported ready.
 fn is_awaited(o: Open, d: usize) -> bool
@@ -66,40 +72,41 @@ fn decided(mut b: Book, q: usize, decision: u8) -> Book
 }
 
 impl Book {
+    // The place of the transaction, where it may abort: 10 if it is decided.
+    fn may_abort(&self, n: TransactionNumber) -> Result<usize, Refusal>
+        ensures { result ≡ result_and (abort_answer places self.now n.0) (Ok (place_of places self.now n.0)) }
+    {
+        let q = self.open_place(n)?;
+        if self.open[q].decision != 0 {
+            return Err(Refusal::AlreadyDecided);
+        }
+        Ok(q)
+    }
+
+    // And where it may complete: then 11 unless its touched districts are ready.
+    fn may_complete(&self, n: TransactionNumber) -> Result<usize, Refusal>
+        ensures { result ≡ result_and (complete_answer places self.now n.0) (Ok (place_of places self.now n.0)) }
+    {
+        let q = self.may_abort(n)?;
+        if some_awaited(self.open[q], self.districts) {
+            return Err(Refusal::NotReady);
+        }
+        Ok(q)
+    }
+
     // The call that completes.
     pub fn complete(self, n: TransactionNumber) -> Done
         ensures { result ≡ complete places self n.0 }
     {
-        if !self.is_sound() {
-            return Done {
-                answer: Err(Refusal::Unsound),
+        match self.may_complete(n) {
+            Ok(q) => Done {
+                answer: Ok(()),
+                book: decided(self, q, COMPLETED),
+            },
+            Err(refusal) => Done {
+                answer: Err(refusal),
                 book: self,
-            };
-        }
-        let q = place_of(self.open, n);
-        if PLACES <= q {
-            return Done {
-                answer: Err(Refusal::NotOpen),
-                book: self,
-            };
-        }
-        let o = self.open[q];
-        if o.decision != 0 {
-            return Done {
-                answer: Err(Refusal::AlreadyDecided),
-                book: self,
-            };
-        }
-        if some_awaited(o, self.districts) {
-            return Done {
-                answer: Err(Refusal::NotReady),
-                book: self,
-            };
-        }
-        let after = decided(self, q, 1);
-        Done {
-            answer: Ok(()),
-            book: after,
+            },
         }
     }
 
@@ -107,30 +114,15 @@ impl Book {
     pub fn abort(self, n: TransactionNumber) -> Done
         ensures { result ≡ abort places self n.0 }
     {
-        if !self.is_sound() {
-            return Done {
-                answer: Err(Refusal::Unsound),
+        match self.may_abort(n) {
+            Ok(q) => Done {
+                answer: Ok(()),
+                book: decided(self, q, ABORTED),
+            },
+            Err(refusal) => Done {
+                answer: Err(refusal),
                 book: self,
-            };
-        }
-        let q = place_of(self.open, n);
-        if PLACES <= q {
-            return Done {
-                answer: Err(Refusal::NotOpen),
-                book: self,
-            };
-        }
-        let o = self.open[q];
-        if o.decision != 0 {
-            return Done {
-                answer: Err(Refusal::AlreadyDecided),
-                book: self,
-            };
-        }
-        let after = decided(self, q, 2);
-        Done {
-            answer: Ok(()),
-            book: after,
+            },
         }
     }
 }

@@ -1,95 +1,68 @@
 // Give up: a busy district waits no longer.
-ghost use Rattle.std.specs.Prelude.{◌≡◌, true, ◌<◌};
+ghost use Rattle.std.specs.Prelude.{◌≡◌};
+ghost use Rattle.std.specs.Result.{result_and};
 ghost use Rattle.conditions.specs.Places.{places};
-ghost use Rattle.book.specs.Book.{most_districts, record_at, place_of};
-ghost use Rattle.book.specs.Records.{computing_on};
-ghost use Rattle.book.specs.GiveUp.{marked, gave_up, give_up};
-ghost use Rattle.book.specs.SoundTest.{sound};
+ghost use Rattle.book.specs.Transactions.{site_of, SiteIn};
+ghost use Rattle.book.specs.GiveUp.{give_up_answer, gave_up, give_up};
 
 use crate::forget::forget;
 use crate::items::given_up;
 use crate::records::{busy_on, computing_on, rested};
 use crate::sets::including;
-use crate::tables::place_of;
-use crate::{Book, Done, Open, Refusal};
-use conditions::{PLACES, Place, TransactionNumber};
-
-// The transaction on which the district gave up before it was ready.
-fn marked(o: Open, d: usize) -> Open
-    requires { d < most_districts }
-    ensures { result ≡ marked d o }
-{
-    let set = including(o.gave, d);
-    let mut p = o;
-    p.gave = set;
-    p
-}
+use crate::site::Site;
+use crate::{Book, Done, Refusal};
+use conditions::TransactionNumber;
 
 // The district is idle, its items are given up, and from computing the transaction is marked.
-fn gave_up(mut b: Book, n: TransactionNumber, d: u8, q: usize, computing: bool) -> Book
-    requires b_value { (sound places b ≡ true) × (d < most_districts) × (q < places) }
-    requires q_value { (q ≡ place_of places b n.0) × (computing ≡ computing_on n.0 (record_at b d)) }
-    ensures { result ≡ gave_up places b n.0 d }
+fn gave_up(mut b: Book, at: Site) -> Book
+    requires { SiteIn places b at }
+    ensures { result ≡ gave_up places b at.number.0 at.district }
 {
-    let place = Place(q);
+    let d = at.district as usize;
+    let computing = computing_on(b.records[d], at.number);
     let records = b.records;
-    let count = b.count;
-    let mut i: usize = 0;
-    while i < count {
-        let x = b.items[i];
-        let y = given_up(x, records, n, d, place, computing);
-        b.items[i] = y;
-        i += 1;
+    for i in 0..b.count {
+        b.items[i] = given_up(
+            b.items[i],
+            records,
+            at.number,
+            at.district,
+            at.place,
+            computing,
+        );
     }
-    let at = d as usize;
-    let r = records[at];
-    let idle = rested(r);
-    b.records[at] = idle;
-    if !computing {
-        return b;
+    b.records[d] = rested(b.records[d]);
+    if computing {
+        b.open[at.place.0].gave = including(b.open[at.place.0].gave, d);
     }
-    let o = b.open[q];
-    let known = marked(o, at);
-    b.open[q] = known;
     b
 }
 
 impl Book {
+    // Where it may: 9 unless the district is busy on the transaction.
+    fn may_give_up(&self, n: TransactionNumber, d: u8) -> Result<Site, Refusal>
+        ensures { result ≡ result_and (give_up_answer places self.now n.0 d) (Ok (site_of places self.now n.0 d)) }
+    {
+        let at = self.site(n, d)?;
+        if !busy_on(self.records[d as usize], n) {
+            return Err(Refusal::NotOnIt);
+        }
+        Ok(at)
+    }
+
     // The call.
     pub fn give_up(self, n: TransactionNumber, d: u8) -> Done
         ensures { result ≡ give_up places self n.0 d }
     {
-        if !self.is_sound() {
-            return Done {
-                answer: Err(Refusal::Unsound),
+        match self.may_give_up(n, d) {
+            Ok(at) => Done {
+                answer: Ok(()),
+                book: forget(gave_up(self, at)),
+            },
+            Err(refusal) => Done {
+                answer: Err(refusal),
                 book: self,
-            };
-        }
-        let q = place_of(self.open, n);
-        if PLACES <= q {
-            return Done {
-                answer: Err(Refusal::NotOpen),
-                book: self,
-            };
-        }
-        let i = d as usize;
-        if self.districts <= i {
-            return Done {
-                answer: Err(Refusal::NoDistrict),
-                book: self,
-            };
-        }
-        let r = self.records[i];
-        if !busy_on(r, n) {
-            return Done {
-                answer: Err(Refusal::NotOnIt),
-                book: self,
-            };
-        }
-        let after = gave_up(self, n, d, q, computing_on(r, n));
-        Done {
-            answer: Ok(()),
-            book: forget(after),
+            },
         }
     }
 }

@@ -1,73 +1,66 @@
 // Hear: a district learns the outcome of a transaction.
-ghost use Rattle.std.specs.Prelude.{◌≡◌, ◌<◌, ◌≤◌};
+ghost use Rattle.std.specs.Prelude.{◌≡◌};
+ghost use Rattle.std.specs.Result.{result_and};
 ghost use Rattle.conditions.specs.Places.{places};
-ghost use Rattle.book.specs.Book.{most_districts, most_items, place_of, open_of};
-ghost use Rattle.book.specs.Hear.{outcome, heard, hear};
+ghost use Rattle.book.specs.Transactions.{site_of, SiteIn};
+ghost use Rattle.book.specs.Hear.{hear_answer, heard, hear};
 
+use crate::decide::COMPLETED;
 use crate::forget::forget;
 use crate::items::heard as heard_item;
 use crate::records::heard as heard_record;
-use crate::tables::place_of;
+use crate::site::Site;
 use crate::{Book, Done, Refusal};
-use conditions::{PLACES, Place, TransactionNumber};
+use conditions::TransactionNumber;
 
 // The district and its items have heard.
-fn heard(mut b: Book, n: TransactionNumber, d: u8, q: Place, completed: bool) -> Book
-    requires count_le_most_items { (b.count ≤ most_items) × (d < most_districts) }
-    requires q_value { (q.0 ≡ place_of places b n.0) × (completed ≡ outcome (open_of places b n.0)) }
-    ensures { result ≡ heard places b n.0 d }
+fn heard(mut b: Book, at: Site) -> Book
+    requires { SiteIn places b at }
+    ensures { result ≡ heard places b at.number.0 at.district }
 {
+    let completed = b.open[at.place.0].decision == COMPLETED;
     let records = b.records;
-    let count = b.count;
-    let mut i: usize = 0;
-    while i < count {
-        let x = b.items[i];
-        let y = heard_item(x, records, n, d, q, completed);
-        b.items[i] = y;
-        i += 1;
+    for i in 0..b.count {
+        b.items[i] = heard_item(
+            b.items[i],
+            records,
+            at.number,
+            at.district,
+            at.place,
+            completed,
+        );
     }
-    let at = d as usize;
-    let r = records[at];
-    let s = heard_record(r, n);
-    b.records[at] = s;
+    let d = at.district as usize;
+    b.records[d] = heard_record(b.records[d], at.number);
     b
 }
 
 impl Book {
+    // Where it may: 12 before a decision.
+    fn may_hear(&self, n: TransactionNumber, d: u8) -> Result<Site, Refusal>
+        ensures { result ≡ result_and (hear_answer places self.now n.0 d) (Ok (site_of places self.now n.0 d)) }
+    {
+        let at = self.site(n, d)?;
+        let q = at.place.0;
+        if self.open[q].decision == 0 {
+            return Err(Refusal::NotDecided);
+        }
+        Ok(at)
+    }
+
     // The call.
     pub fn hear(self, n: TransactionNumber, d: u8) -> Done
         ensures { result ≡ hear places self n.0 d }
     {
-        if !self.is_sound() {
-            return Done {
-                answer: Err(Refusal::Unsound),
+        match self.may_hear(n, d) {
+            Ok(at) => Done {
+                answer: Ok(()),
+                book: forget(heard(self, at)),
+            },
+            Err(refusal) => Done {
+                answer: Err(refusal),
                 book: self,
-            };
-        }
-        let q = place_of(self.open, n);
-        if PLACES <= q {
-            return Done {
-                answer: Err(Refusal::NotOpen),
-                book: self,
-            };
-        }
-        if self.districts <= d as usize {
-            return Done {
-                answer: Err(Refusal::NoDistrict),
-                book: self,
-            };
-        }
-        let o = self.open[q];
-        if o.decision == 0 {
-            return Done {
-                answer: Err(Refusal::NotDecided),
-                book: self,
-            };
-        }
-        let after = heard(self, n, d, Place(q), o.decision == 1);
-        Done {
-            answer: Ok(()),
-            book: forget(after),
+            },
         }
     }
 }

@@ -21,6 +21,7 @@ mod ready;
 mod records;
 mod sets;
 mod show;
+mod site;
 mod sound;
 mod state;
 mod steps;

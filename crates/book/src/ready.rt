@@ -1,77 +1,53 @@
 // Ready: a computing district waits for the decision. It stays on its transaction, so there is nothing to
 // forget.
-ghost use Rattle.std.specs.Prelude.{◌≡◌, ℕ, ◌<◌};
+ghost use Rattle.std.specs.Prelude.{◌≡◌};
+ghost use Rattle.std.specs.Result.{result_and};
 ghost use Rattle.conditions.specs.Places.{places};
-ghost use Rattle.book.specs.Book.{most_districts, place_of};
-ghost use Rattle.book.specs.Ready.{reported, readied, ready};
+ghost use Rattle.book.specs.Transactions.{site_of, SiteIn};
+ghost use Rattle.book.specs.Ready.{ready_answer, readied, ready};
 
 use crate::records::{computing_on, readied as readied_record};
 use crate::sets::including;
-use crate::tables::place_of;
-use crate::{Book, Done, Open, Refusal};
-use conditions::{PLACES, TransactionNumber};
+use crate::site::Site;
+use crate::{Book, Done, Refusal};
+use conditions::TransactionNumber;
 
-// The transaction to which the district reported ready.
-fn reported(o: Open, d: usize) -> Open
-    requires { d < most_districts }
-    ensures { result ≡ reported d o }
+// The district waits on the transaction, and is in its ready set.
+fn readied(mut b: Book, at: Site) -> Book
+    requires { SiteIn places b at }
+    ensures { result ≡ readied places b at.number.0 at.district }
 {
-    let set = including(o.ready, d);
-    let mut p = o;
-    p.ready = set;
-    p
-}
-
-// The district waits on the transaction at the place, and is in its ready set.
-fn readied(mut b: Book, q: usize, d: usize) -> Book
-    requires { (q < places) × (d < most_districts) }
-    ensures { (n : ℕ) → q ≡ place_of places b n → result ≡ readied places b n d }
-{
-    let r = b.records[d];
-    let waiting = readied_record(r);
-    b.records[d] = waiting;
-    let o = b.open[q];
-    let known = reported(o, d);
-    b.open[q] = known;
+    let d = at.district as usize;
+    b.records[d] = readied_record(b.records[d]);
+    b.open[at.place.0].ready = including(b.open[at.place.0].ready, d);
     b
 }
 
 impl Book {
+    // Where it may: 9 unless the district is computing on the transaction.
+    fn may_ready(&self, n: TransactionNumber, d: u8) -> Result<Site, Refusal>
+        ensures { result ≡ result_and (ready_answer places self.now n.0 d) (Ok (site_of places self.now n.0 d)) }
+    {
+        let at = self.site(n, d)?;
+        if !computing_on(self.records[d as usize], n) {
+            return Err(Refusal::NotOnIt);
+        }
+        Ok(at)
+    }
+
     // The call.
     pub fn ready(self, n: TransactionNumber, d: u8) -> Done
         ensures { result ≡ ready places self n.0 d }
     {
-        if !self.is_sound() {
-            return Done {
-                answer: Err(Refusal::Unsound),
+        match self.may_ready(n, d) {
+            Ok(at) => Done {
+                answer: Ok(()),
+                book: readied(self, at),
+            },
+            Err(refusal) => Done {
+                answer: Err(refusal),
                 book: self,
-            };
-        }
-        let q = place_of(self.open, n);
-        if PLACES <= q {
-            return Done {
-                answer: Err(Refusal::NotOpen),
-                book: self,
-            };
-        }
-        let i = d as usize;
-        if self.districts <= i {
-            return Done {
-                answer: Err(Refusal::NoDistrict),
-                book: self,
-            };
-        }
-        let r = self.records[i];
-        if !computing_on(r, n) {
-            return Done {
-                answer: Err(Refusal::NotOnIt),
-                book: self,
-            };
-        }
-        let after = readied(self, q, i);
-        Done {
-            answer: Ok(()),
-            book: after,
+            },
         }
     }
 }

@@ -67,10 +67,6 @@ all-needed w p c e f = sym (ap₂ ◌&&◌ e f)
 
 -- ---- the next prime product
 
--- a product that is not prime, alone
-pub none-one : (w c p : ℕ) → prime w p c ≡ false → NonePrime w c p (p + 1)
-none-one w c p e j l = let at : p + j ≡ p = omega arith in ap (λ (q : ℕ). prime w q c) at ∙ e
-
 -- none before p and none of the r from p on, up to any end among them
 pub none-on : (w c from p r end : ℕ) → from ≤ p → NonePrime w c from p → NonePrime w c p (p + r) → end ≤ p + r → NonePrime w c from end
 none-on w c from p r end h none more k j l = pick (dec_lt j (p - from))
@@ -107,15 +103,6 @@ next-is w c from limit {r} h e =
       none = λ j l. before-first (limit - from) f j (omega arith);
       found = λ l. ap (λ (q : ℕ). prime w q c) e ∙ first_passes (limit - from) f (omega arith);
     }
-
--- one place more that does not matter
-pub free_more : (w c i : ℕ) → 0 < i → depends_on w c (i - 1) ≡ false → ((j : ℕ) → i ≤ j → j < w → depends_on w c j ≡ false)
-    → (j : ℕ) → i - 1 ≤ j → j < w → depends_on w c j ≡ false
-free_more w c i h e free j l k = pick (dec_lt j i)
-  where
-    pick : Dec (j < i) → depends_on w c j ≡ false
-    pick (yes b) = let q : j ≡ i - 1 = omega arith in ap (depends_on w c) q ∙ e
-    pick (no b) = free j (omega arith) k
 
 -- `3 ^ m`, where no place from m on matters
 pub none-high : (w c m : ℕ) {r : ℕ} → r ≡ 3 ^ m → ((i : ℕ) → m ≤ i → i < w → depends_on w c i ≡ false) → NonePrime w c r (3 ^ w)

@@ -1,52 +1,44 @@
--- Each test in its order.
-use mathlib.Core.Bool.{true}
-use mathlib.Core.Path.{◌≡◌, refl, sym, ap, ◌∙◌}
-use borrow.Author.Tests.{lt-ltb, le-ltb, eq-eqb, ne_eqb, not-true, not-false}
+-- As it was judged.
+use mathlib.Core.Path.{refl, ap, ◌∙◌}
 use Rattle.conditions.specs.Places.{places}
 use Rattle.book.specs.declared.Book.{Book}
-use Rattle.book.specs.Answers.{first_of}
-use Rattle.book.specs.Book.{open_at, place_of}
+use Rattle.book.specs.declared.site.Site.{Site}
 use Rattle.book.specs.Forget.{forget}
-use Rattle.book.specs.SoundTest.{sound}
-use Rattle.book.specs.Transactions.{done}
-use Rattle.book.proofs.Laws.Sound.{test-sound}
-use Rattle.book.proofs.Doing.{accepts, few, district-row}
-use Prim.Native.Nat.{ℕ}
-use Rattle.book.specs.Hear.{outcome, hear_answer, heard, hear}
+use Rattle.book.specs.Transactions.{site_of}
+use Rattle.book.specs.Hear.{hear_answer, heard, hear}
+use Rattle.book.proofs.Doing.{few}
+use Rattle.book.proofs.Laws.Answers.{and-accepted}
+use Rattle.book.proofs.Judging.{sound_and_open, site_in, done-in_ok, done-in_err}
 use Rattle.book.proofs.Book.hear.Goals as goal
 
-pub returns-then-not-is_sound : goal.returns-then-not-is_sound
-unfolding hear hear_answer done first_of
-returns-then-not-is_sound c = rw (sym c.is_sound.ensures ∙ not-true _ c.if-not-is_sound.true-raw)
-
-pub returns-then-q-ge-PLACES : goal.returns-then-q-ge-PLACES
-unfolding hear hear_answer done first_of place_of
-returns-then-q-ge-PLACES c = rw (sym c.is_sound.ensures ∙ not-false _ c.if-not-is_sound.false-raw, ← c.place_of-q.ensures, le-ltb _ _ c.if-q-ge-PLACES.true)
-
-pub returns-then-self-d : goal.returns-then-self-d
-unfolding hear hear_answer done first_of place_of
-returns-then-self-d c = rw (sym c.is_sound.ensures ∙ not-false _ c.if-not-is_sound.false-raw, ← c.place_of-q.ensures, lt-ltb _ _ c.if-q-ge-PLACES.false, le-ltb _ _ c.if-self-d.true)
-
-pub returns-then-o-eq0 : goal.returns-then-o-eq0
-unfolding hear hear_answer done first_of place_of
-returns-then-o-eq0 c = rw (sym c.is_sound.ensures ∙ not-false _ c.if-not-is_sound.false-raw, ← c.place_of-q.ensures, lt-ltb _ _ c.if-q-ge-PLACES.false, lt-ltb _ _ c.if-self-d.false, eq-eqb _ 0 c.if-o-eq0.true)
-
-pub heard-after-requires : goal.heard-after-requires
-unfolding place_of
-heard-after-requires c =
+pub heard-requires : goal.heard-requires
+unfolding hear_answer
+heard-requires c =
     let b = c.args.self in
-    let s : sound places b ≡ true = sym c.is_sound.ensures ∙ not-false _ c.if-not-is_sound.false-raw in
-    record {
-      count_le_most_items = ((test-sound places b s).few_items, district-row places b s c.if-self-d.false);
-      q_value = (c.place_of-q.ensures, ap (λ (q : ℕ). outcome (open_at b q)) c.place_of-q.ensures);
-    }
+    let judged = and-accepted (hear_answer places b c.args.n.0 c.args.d) c.in-Ok.ensures in
+    rw judged.1 (site_in places b c.args.n.0 c.args.d _ judged.0)
 
 pub forget-requires : goal.forget-requires
-unfolding heard
-forget-requires c = few places c.args.self (sym c.is_sound.ensures ∙ not-false _ c.if-not-is_sound.false-raw) c.heard-after.ensures refl refl
+unfolding hear_answer heard
+forget-requires c =
+    let b = c.args.self in
+    let judged = and-accepted (hear_answer places b c.args.n.0 c.args.d) c.in-Ok.ensures in
+    few places b (sound_and_open places b c.args.n.0 _ judged.0).0 c.heard.ensures refl refl
 
-pub returns : goal.returns
-unfolding hear hear_answer done first_of place_of
-returns c =
-    ap (λ (b : Book). accepts b) (c.forget.ensures ∙ ap (λ (b : Book). forget places b) c.heard-after.ensures)
-    ∙ rw (sym c.is_sound.ensures ∙ not-false _ c.if-not-is_sound.false-raw, ← c.place_of-q.ensures, lt-ltb _ _ c.if-q-ge-PLACES.false, lt-ltb _ _ c.if-self-d.false, ne_eqb _ 0 c.if-o-eq0.false)
+pub returns-in-Ok : goal.returns-in-Ok
+unfolding hear
+returns-in-Ok c =
+    let b = c.args.self in
+    let n = c.args.n.0 in
+    let d = c.args.d in
+    let judged = and-accepted (hear_answer places b n d) c.in-Ok.ensures in
+    done-in_ok places (hear_answer places b n d) (heard places b n d) b (site_of places b n d) c.in-Ok.ensures
+    (c.forget.ensures ∙ ap (λ (a : Book). forget places a) (c.heard.ensures ∙ ap (λ (at : Site). heard places b at.number.0 at.district) judged.1))
+
+pub returns-in-Err : goal.returns-in-Err
+unfolding hear
+returns-in-Err c =
+    let b = c.args.self in
+    let n = c.args.n.0 in
+    let d = c.args.d in
+    done-in_err places (hear_answer places b n d) (heard places b n d) b (site_of places b n d) c.in-Err.ensures

@@ -3,12 +3,8 @@ use Prim.Native.Nat.{◌-◌}
 use native.Mathlib.Nat.{mod-lt}
 use native.Mathlib.Omega.{arith}
 use Rattle.conditions.specs.Places.{places}
-use Rattle.conditions.proofs.Primes.{none-one}
-use Rattle.conditions.proofs.Skipping.{walk_begins, scale-some, tag-below, walk-on, walk-stops}
+use Rattle.conditions.proofs.Skipping.{scale-some, tag-below, walk-on, walk-stops}
 use Rattle.conditions.proofs.product.barren_from.Goals as goal
-
-pub loop-i-init : goal.loop-i-init
-loop-i-init c = walk_begins places _ _
 
 pub of-tag-requires : goal.of-tag-requires
 of-tag-requires c = tag-below places _ _ (c.loop-i.i - 1) (omega arith) c.loop-i.invariant
@@ -18,9 +14,6 @@ nonzero_div-rest c = scale-some places _ _ (c.loop-i.i - 1) (omega arith) c.loop
 
 pub nonzero_rem-rest-in-loop-i : goal.nonzero_rem-rest-in-loop-i
 nonzero_rem-rest-in-loop-i c = scale-some places _ _ (c.loop-i.i - 1) (omega arith) c.loop-i.invariant
-
-pub is_barren-requires : goal.is_barren-requires
-is_barren-requires c = omega (arith, c.loop-i.invariant.up_to)
 
 pub overflow_sub-result : goal.overflow_sub-result
 overflow_sub-result c =
@@ -35,16 +28,7 @@ returns-then-is_barren c =
       walk-stops places _ _ (at-loop.i - 1) (omega arith) at-loop.invariant (λ q t. c.is_barren.ensures c.if-is_barren.true q (t ∙ sym c.of-tag.ensures)),
     )
 
-pub narrowed-set-requires : goal.narrowed-set-requires
-narrowed-set-requires c = omega (arith, c.loop-i.invariant.up_to)
-
 pub loop-i-preserved : goal.loop-i-preserved
 loop-i-preserved c =
     let at-loop = c.loop-i in
     walk-on places _ _ _ (omega arith) at-loop.invariant (λ q t. c.narrowed-set.ensures q (t ∙ sym c.of-tag.ensures))
-
-pub returns-then-is_prime : goal.returns-then-is_prime
-returns-then-is_prime c = sym c.is_prime.ensures ∙ c.if-is_prime.true
-
-pub returns : goal.returns
-returns c = (omega arith, none-one places _ _ (sym c.is_prime.ensures ∙ c.if-is_prime.false))

@@ -3,9 +3,6 @@ use Rattle.conditions.specs.Places.{places}
 use Rattle.conditions.proofs.Primes.{none-on, is-next}
 use Rattle.conditions.proofs.product.prime_from.Goals as goal
 
-pub loop-p-init : goal.loop-p-init
-loop-p-init c = (omega arith, omega arith, (λ j h. absurd (omega arith)))
-
 pub returns-in_default : goal.returns-in_default
 returns-in_default c =
     let at-loop = c.loop-p in
@@ -15,9 +12,6 @@ pub returns-then-limit-p : goal.returns-then-limit-p
 returns-then-limit-p c =
     let at-loop = c.loop-p in
     is-next places _ _ _ _ (omega arith) (omega arith) (none-on places _ _ _ _ _ at-loop.invariant.0 at-loop.invariant.2 c.in-Some.ensures.1 (omega arith)) (λ h. absurd (omega arith))
-
-pub loop-p-smaller : goal.loop-p-smaller
-loop-p-smaller c = omega (arith, c.in-Some.ensures.0)
 
 pub loop-p-preserved : goal.loop-p-preserved
 loop-p-preserved c =

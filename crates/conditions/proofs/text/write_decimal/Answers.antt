@@ -2,17 +2,13 @@
 use mathlib.Core.Path.{sym}
 use native.Mathlib.Omega.{arith}
 use Rattle.std.proofs.lemmas.Grind.{common_steps}
-use Rattle.conditions.specs.Text.{decimal}
-use Rattle.conditions.proofs.Putting.{fits, refused, accepted}
+use Rattle.conditions.proofs.Putting.{refused, accepted}
 use Rattle.conditions.proofs.text.write_decimal.Goals as goal
 
 pub returns-then-not-room : goal.returns-then-not-room
 returns-then-not-room c =
     let both = refused _ _ _ c.decimal_len.ensures.value c.room.ensures c.if-not-room.true-raw in
     record { value = both.0; buf_after = both.1 }
-
-pub put_decimal-requires : goal.put_decimal-requires
-put_decimal-requires c = omega (arith, fits c.args.buf.now c.args.at (decimal c.args.n) c.decimal_len.ensures.value c.room.ensures c.if-not-room.false-raw)
 
 pub returns-clause-value : goal.returns-clause-value
 returns-clause-value c = (accepted c.decimal_len.ensures.value c.room.ensures c.if-not-room.false-raw c.put_decimal.ensures.put).0

@@ -2,18 +2,13 @@
 use mathlib.Core.Path.{sym}
 use native.Mathlib.Omega.{arith}
 use Rattle.std.proofs.lemmas.Grind.{common_steps}
-use Rattle.conditions.specs.Places.{places}
-use Rattle.conditions.specs.Text.{number_at, condition_text}
-use Rattle.conditions.proofs.Putting.{fits, refused, accepted}
+use Rattle.conditions.proofs.Putting.{refused, accepted}
 use Rattle.conditions.proofs.condition.Condition.write_text.Goals as goal
 
 pub returns-then-not-room : goal.returns-then-not-room
 returns-then-not-room c =
     let both = refused _ _ _ c.text_len.ensures.value c.room.ensures c.if-not-room.true-raw in
     record { value = both.0; buf_after = both.1 }
-
-pub put_condition-requires : goal.put_condition-requires
-put_condition-requires c = omega (arith, fits c.args.buf.now c.args.at (condition_text places (number_at c.args.numbers) c.args.self.0) c.text_len.ensures.value c.room.ensures c.if-not-room.false-raw)
 
 pub returns-clause-value : goal.returns-clause-value
 returns-clause-value c = (accepted c.text_len.ensures.value c.room.ensures c.if-not-room.false-raw c.put_condition.ensures.put.put).0

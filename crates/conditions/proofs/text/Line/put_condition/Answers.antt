@@ -17,9 +17,6 @@ loop-p-init c =
       upper_bound = omega arith;
     }
 
-pub put_next-requires : goal.put_next-requires
-put_next-requires c = omega (arith, c.loop-p.invariant.limited, c.loop-p.invariant.upper_bound)
-
 pub loop-p-smaller : goal.loop-p-smaller
 loop-p-smaller c =
     let next = next-is places _ _ _ (omega arith) c.prime_from-p-in-loop-p.ensures in
@@ -37,10 +34,7 @@ loop-p-preserved c =
       upper_bound = omega (arith, next.from_on, at-loop.upper_bound, c.put_next.ensures.upper_bound);
     }
 
-pub returns : goal.returns
-returns c =
+pub returns-clause-put : goal.returns-clause-put
+returns-clause-put c =
     let last : c.loop-p.p ≡ c.limit-limit.result = omega (arith, c.loop-p.invariant.up_to) in
-    record {
-      put = condition-put places _ _ _ c.limit-limit.ensures.upper_bound c.limit-limit.ensures.none_prime (rw last at c.loop-p.invariant.put);
-      upper_bound = omega (arith, c.loop-p.invariant.limited, c.loop-p.invariant.upper_bound);
-    }
+    condition-put places _ _ _ c.limit-limit.ensures.upper_bound c.limit-limit.ensures.none_prime (rw last at c.loop-p.invariant.put)

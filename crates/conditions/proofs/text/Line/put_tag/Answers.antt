@@ -10,9 +10,6 @@ use Rattle.conditions.proofs.Putting.{puts_then}
 use Rattle.conditions.proofs.Tags.{same-number}
 use Rattle.conditions.proofs.text.Line.put_tag.Goals as goal
 
-pub put-requires : goal.put-requires
-put-requires c = omega (arith, c.put_if.ensures.upper_bound)
-
 pub put_decimal-requires : goal.put_decimal-requires
 put_decimal-requires c =
     let small : c.args.n.0 < 2 ^ 16 = search rules in

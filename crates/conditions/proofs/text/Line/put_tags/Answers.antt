@@ -1,7 +1,6 @@
-use mathlib.Core.Path.{◌≡◌, refl}
+use mathlib.Core.Path.{refl}
 use native.Mathlib.Numerals.{add-one}
 use native.Mathlib.Omega.{arith}
-use Rattle.conditions.specs.Places.{places}
 use Rattle.conditions.specs.Below.{those}
 use Rattle.conditions.specs.Text.{joined, tags_text}
 use Rattle.conditions.proofs.Putting.{puts_none, tags-more}
@@ -11,19 +10,8 @@ pub loop-i-init : goal.loop-i-init
 unfolding tags_text those joined
 loop-i-init c = record { put = puts_none _; upper_bound = omega arith }
 
-pub put_place-requires : goal.put_place-requires
-put_place-requires c = omega (arith, c.loop-i.invariant.upper_bound)
-
 pub loop-i-preserved : goal.loop-i-preserved
 loop-i-preserved c = record {
   put = rw add-one (tags-more _ _ _ c.loop-i.invariant.put c.tag.ensures refl c.put_place.ensures.put);
   upper_bound = omega (arith, c.loop-i.invariant.upper_bound, c.put_place.ensures.upper_bound);
 }
-
-pub returns : goal.returns
-returns c =
-    let last : c.loop-i.i ≡ places = omega arith in
-    record {
-      put = rw last at c.loop-i.invariant.put;
-      upper_bound = omega (arith, c.loop-i.invariant.upper_bound);
-    }

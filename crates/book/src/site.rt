@@ -1,0 +1,50 @@
+// Where an event takes place: an open transaction, and a district.
+ghost use Rattle.std.specs.Prelude.{◌≡◌};
+ghost use Rattle.std.specs.Result.{result_and};
+ghost use Rattle.conditions.specs.Places.{places};
+ghost use Rattle.book.specs.Answers.{first_of};
+ghost use Rattle.book.specs.Book.{place_of};
+ghost use Rattle.book.specs.Transactions.{open_tests, site_tests, site_of};
+
+use crate::tables::place_of;
+use crate::{Book, Refusal};
+use conditions::{PLACES, Place, TransactionNumber};
+
+// The transaction's number and its place, and the district.
+#[derive(Clone, Copy)]
+pub struct Site {
+    pub number: TransactionNumber,
+    pub place: Place,
+    pub district: u8,
+}
+
+impl Book {
+    // The place of the open transaction with the number: 15, 4.
+    pub(crate) fn open_place(&self, n: TransactionNumber) -> Result<usize, Refusal>
+        ensures { result ≡ result_and (first_of (open_tests places self.now n.0)) (Ok (place_of places self.now n.0)) }
+    {
+        if !self.is_sound() {
+            return Err(Refusal::Unsound);
+        }
+        let q = place_of(self.open, n);
+        if PLACES <= q {
+            return Err(Refusal::NotOpen);
+        }
+        Ok(q)
+    }
+
+    // The transaction and the district: 15, 4, 1.
+    pub(crate) fn site(&self, n: TransactionNumber, d: u8) -> Result<Site, Refusal>
+        ensures { result ≡ result_and (first_of (site_tests places self.now n.0 d)) (Ok (site_of places self.now n.0 d)) }
+    {
+        let q = self.open_place(n)?;
+        if self.districts <= d as usize {
+            return Err(Refusal::NoDistrict);
+        }
+        Ok(Site {
+            number: n,
+            place: Place(q),
+            district: d,
+        })
+    }
+}
