@@ -64,9 +64,6 @@ returns-then-not-zero_rows c =
     let items = sym (items-past width c.args.self.now long few.1 (rw last at c.loop-x.invariant.0)) ∙ sym zeros in
     rw (items ∙ c.if-not-zero_rows.true, and-false)
 
-pub sound_places-requires : goal.sound_places-requires
-sound_places-requires c = (few-rows c.args.self.now.districts c.args.self.now.count c.good_counts.ensures (ap not c.if-not-good_counts.false)).0
-
 pub returns-then-sound_districts : goal.returns-then-sound_districts
 unfolding sound
 returns-then-sound_districts c =
