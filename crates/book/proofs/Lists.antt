@@ -36,8 +36,8 @@ all_rows p z (suc n) xs h =
     rw add-one at more ∙ ap (λ (b : Bool). b && p (get_or xs n z)) (all_rows p z n xs (omega arith))
 
 -- `&xs[n..]`
-pub to_the_end : {A : Type 0} (n : ℕ) (xs : List A) → take (length xs - n) (drop n xs) ≡ drop n xs
-to_the_end n xs = ap (λ (k : ℕ). take k (drop n xs)) (sym (length-drop n xs)) ∙ take-length (drop n xs)
+pub to_the_end : {A : Type 0} (n m : ℕ) (xs : List A) → length xs ≡ m → take (m - n) (drop n xs) ≡ drop n xs
+to_the_end n m xs long = ap (λ (k : ℕ). take (k - n) (drop n xs)) (sym long) ∙ ap (λ (k : ℕ). take k (drop n xs)) (sym (length-drop n xs)) ∙ take-length (drop n xs)
 
 -- the rows from n on
 pub all_past : {A : Type 0} (p : A → Bool) (z : A) (n : ℕ) (xs : List A) → list_all p (drop n xs) ≡ all (length xs - n) (λ i. p (get_or xs (n + i) z))

@@ -59,7 +59,7 @@ fn number_differs(places: [Open; PLACES], q: usize, n: TransactionNumber) -> boo
 
 // Whether the open transaction at a place is sound.
 fn sound_open(t: Tables, q: usize, o: Open) -> bool
-    requires { (t.districts ≤ most_districts) × (q < place_count) }
+    requires { q < place_count }
     ensures { (b : Book) → TablesOf place_count b t → result ≡ sound_open place_count b q o }
 {
     let districts = t.districts;
@@ -89,7 +89,7 @@ fn sound_open(t: Tables, q: usize, o: Open) -> bool
 
 // Whether a place is sound.
 fn sound_place(t: Tables, q: usize) -> bool
-    requires { (t.districts ≤ most_districts) × (q < place_count) }
+    requires { q < place_count }
     ensures { (b : Book) → TablesOf place_count b t → result ≡ sound_place place_count b q }
 {
     let o = t.open[q];
@@ -101,7 +101,6 @@ fn sound_place(t: Tables, q: usize) -> bool
 
 // Whether each of them is.
 pub(crate) fn sound_places(t: Tables) -> bool
-    requires { t.districts ≤ most_districts }
     ensures { (b : Book) → TablesOf place_count b t → result ≡ all place_count (sound_place place_count b) }
 {
     for q in 0..PLACES {

@@ -36,10 +36,8 @@ impl State {
         requires { item < most_items }
         ensures { result ≡ added (state_of self) item (old.0 +ℤ operand) }
     {
-        match sum(old.0, operand) {
-            Some(v) => Some(self.with(item, Value(v))),
-            None => None,
-        }
+        let v = sum(old.0, operand)?;
+        Some(self.with(item, Value(v)))
     }
 
     // The state after the step, if the step does not decline.

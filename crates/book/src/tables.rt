@@ -43,6 +43,7 @@ pub struct Tables {
     pub records: [Record; DISTRICTS],
     pub open: [Open; PLACES],
     pub depended: u8,
+    ghost few: { districts ≤ most_districts },
 }
 
 // The number of the transaction that a district with this record is on, 0 where it is idle.
