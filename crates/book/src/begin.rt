@@ -26,11 +26,10 @@ fn begun_item(x: Item, is_touched: bool, new: Polyvalue) -> Item
     ensures { result ≡ cond is_touched (becomes x x.held new) x }
 {
     if is_touched {
-        let mut y = x;
-        y.pending = new;
-        return y;
+        Item { pending: new, ..x }
+    } else {
+        x
     }
-    x
 }
 
 // The next number is given to the program, at the place; the set has the districts that it touches.
@@ -40,31 +39,19 @@ fn begun(mut b: Book, p: Program, w: Worked, q: usize, set: u8) -> Book
     requires worked_out { WorkedOut places b (steps_of p) w }
     ensures { result ≡ begun places b (steps_of p) }
 {
-    let before = b.last.0;
-    let next = before + 1;
-    let number = TransactionNumber(next);
-    let idle = b.records;
-    let records = begun_records(idle, b.districts, set, number);
-    let count = b.count;
-    let mut i: usize = 0;
-    while i < count {
-        let x = b.items[i];
-        let new = w.new[i];
-        let is_touched = p.touches(i);
-        let y = begun_item(x, is_touched, new);
-        b.items[i] = y;
-        i += 1;
+    let number = TransactionNumber(b.last.0 + 1);
+    for i in 0..b.count {
+        b.items[i] = begun_item(b.items[i], p.touches(i), w.new[i]);
     }
-    let new = Open {
+    b.last = number;
+    b.records = begun_records(b.records, b.districts, set, number);
+    b.open[q] = Open {
         number,
         touched: set,
         ready: 0,
         gave: 0,
         decision: 0,
     };
-    b.last = number;
-    b.records = records;
-    b.open[q] = new;
     b
 }
 
@@ -112,14 +99,9 @@ fn begin_program(b: Book, p: Program) -> Begun
     requires p_value { some_step (outside b.count) (steps_of p) ≡ false }
     ensures { (bytes : List ℕ) → bad_program bytes ≡ false → steps bytes ≡ steps_of p → result ≡ begin places b bytes }
 {
-    let count = b.count;
-    let mut set: u8 = 0;
-    let mut i: usize = 0;
-    while i < count {
-        let district = b.items[i].district;
-        let is_touched = p.touches(i);
-        set = with_district(set, is_touched, district);
-        i += 1;
+    let mut set = 0;
+    for (i, x) in b.items[..b.count].iter().enumerate() {
+        set = with_district(set, p.touches(i), x.district);
     }
     let records = b.records;
     let is_busy = some_busy(records, b.districts, set);

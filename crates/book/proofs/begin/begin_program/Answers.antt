@@ -1,9 +1,19 @@
 use borrow.Author.Tests.{lt-ltb, le-ltb}
-use mathlib.Core.Path.{◌≡◌, sym, ◌∙◌}
+use mathlib.Core.Path.{◌≡◌, sym, ap, ap₂, ◌∙◌}
+use mathlib.Core.Bool.{Bool, true, ◌&&◌, ◌||◌}
+use Prim.Native.Nat.{ℕ, ◌<◌, ◌≤◌}
+use lib.Dec.{eqb}
+use lib.ListN.{length, take, length-take}
+use borrow.Author.Rules.{rules}
+use Rattle.std.proofs.lemmas.List.{get_or-take}
+use Rattle.conditions.specs.Sets.{member}
+use Rattle.book.specs.declared.Book.{Book}
+use Rattle.book.specs.declared.Item.{Item}
+use Rattle.book.specs.SoundTest.{sound}
 use native.Mathlib.Omega.{arith}
 use Rattle.conditions.specs.Places.{places}
 use Rattle.book.specs.Answers.{first_of}
-use Rattle.book.specs.Book.{most_districts, free_place}
+use Rattle.book.specs.Book.{most_districts, most_items, void_item, free_place}
 use Rattle.book.specs.States.{steps_of}
 use Rattle.book.proofs.Laws.Sound.{test-sound}
 use Rattle.book.proofs.Loops.{gathered_none, gathered-more}
@@ -11,20 +21,23 @@ use Rattle.book.proofs.Touching.{all-touched, touched-busy}
 use Rattle.book.proofs.Beginning.{begin-later}
 use Rattle.book.proofs.begin.begin_program.Goals as goal
 
+-- the loop has gone through all items
+all_items : (b : Book) → sound places b ≡ true → length b.items ≡ most_items → (i : ℕ) → length (take b.count b.items) ≤ i → i ≤ length (take b.count b.items) → i ≡ b.count
+all_items b s long i h l = omega (arith, length-take b.count b.items, (test-sound places b s).few_items)
+
 pub loop-i-init : goal.loop-i-init
-loop-i-init c = (omega arith, (omega arith, gathered_none most_districts _))
+loop-i-init c = (omega arith, gathered_none most_districts _)
 
-pub offset_bounds-b-i : goal.offset_bounds-b-i
-offset_bounds-b-i c = record { fits = omega (arith, (test-sound places _ c.requires.b_value).few_items) }
-
-pub bounds-b-i : goal.bounds-b-i
-bounds-b-i c = omega (arith, (test-sound places _ c.requires.b_value).few_items)
-
-pub loop-i-smaller : goal.loop-i-smaller
-loop-i-smaller c = omega arith
+pub shared_ref_as_front-x-items : goal.shared_ref_as_front-x-items
+shared_ref_as_front-x-items c = (test-sound places _ c.requires.b_value).few_items
 
 pub loop-i-preserved : goal.loop-i-preserved
-loop-i-preserved c = (omega arith, (omega arith, gathered-more most_districts _ c.loop-i.i c.loop-i.set _ c.loop-i.invariant.1.1 (rw c.touches-is_touched.ensures at c.with_district-set.ensures)))
+loop-i-preserved c =
+    let b = c.args.b in
+    let i = c.loop-i.i in
+    let below : i < b.count = omega (arith, length-take b.count b.items) in
+    let district = ap (λ (x : Item). x.district) (get_or-take b.count b.items i void_item below) in
+    (omega arith, gathered-more most_districts _ i c.loop-i.set _ c.loop-i.invariant.1 (λ d h. c.with_district-set.ensures d h ∙ ap₂ (λ (t : Bool) (e : ℕ). member c.loop-i.set d || (t && eqb e d)) c.touches.ensures district))
 
 pub some_busy-is_busy-requires : goal.some_busy-is_busy-requires
 some_busy-is_busy-requires c = (test-sound places c.args.b c.requires.b_value).few_districts
@@ -32,38 +45,38 @@ some_busy-is_busy-requires c = (test-sound places c.args.b c.requires.b_value).f
 pub returns-then-is_busy : goal.returns-then-is_busy
 unfolding first_of
 returns-then-is_busy c bytes good e =
-    let last : c.loop-i.i ≡ c.args.b.count = omega (arith, c.loop-i.invariant.0) in
+    let last = all_items c.args.b c.requires.b_value (search rules) c.loop-i.i (omega arith) (omega arith) in
     begin-later places c.args.b bytes c.requires.b_value good e c.requires.p_value
-    (rw (sym (touched-busy c.args.b (steps_of c.args.p) c.loop-i.set last c.loop-i.invariant.1 places c.requires.b_value c.some_busy-is_busy.ensures) ∙ c.if-is_busy.true) c.refused.ensures)
+    (rw (sym (touched-busy c.args.b (steps_of c.args.p) c.loop-i.set last c.loop-i.invariant places c.requires.b_value c.some_busy-is_busy.ensures) ∙ c.if-is_busy.true) c.refused.ensures)
 
 pub returns-then-q-ge-PLACES : goal.returns-then-q-ge-PLACES
 unfolding first_of free_place
 returns-then-q-ge-PLACES c bytes good e =
-    let last : c.loop-i.i ≡ c.args.b.count = omega (arith, c.loop-i.invariant.0) in
+    let last = all_items c.args.b c.requires.b_value (search rules) c.loop-i.i (omega arith) (omega arith) in
     begin-later places c.args.b bytes c.requires.b_value good e c.requires.p_value
-    (rw (sym (touched-busy c.args.b (steps_of c.args.p) c.loop-i.set last c.loop-i.invariant.1 places c.requires.b_value c.some_busy-is_busy.ensures) ∙ c.if-is_busy.false, ← c.free_place-q.ensures, le-ltb _ _ c.if-q-ge-PLACES.true) c.refused-then-q-ge-PLACES.ensures)
+    (rw (sym (touched-busy c.args.b (steps_of c.args.p) c.loop-i.set last c.loop-i.invariant places c.requires.b_value c.some_busy-is_busy.ensures) ∙ c.if-is_busy.false, ← c.free_place-q.ensures, le-ltb _ _ c.if-q-ge-PLACES.true) c.refused-then-q-ge-PLACES.ensures)
 
 pub returns-then-b-ge-NUMBERS : goal.returns-then-b-ge-NUMBERS
 unfolding first_of free_place
 returns-then-b-ge-NUMBERS c bytes good e =
-    let last : c.loop-i.i ≡ c.args.b.count = omega (arith, c.loop-i.invariant.0) in
+    let last = all_items c.args.b c.requires.b_value (search rules) c.loop-i.i (omega arith) (omega arith) in
     begin-later places c.args.b bytes c.requires.b_value good e c.requires.p_value
-    (rw (sym (touched-busy c.args.b (steps_of c.args.p) c.loop-i.set last c.loop-i.invariant.1 places c.requires.b_value c.some_busy-is_busy.ensures) ∙ c.if-is_busy.false, ← c.free_place-q.ensures, lt-ltb _ _ c.if-q-ge-PLACES.false, le-ltb _ _ c.if-b-ge-NUMBERS.true) c.refused-then-b-ge-NUMBERS.ensures)
+    (rw (sym (touched-busy c.args.b (steps_of c.args.p) c.loop-i.set last c.loop-i.invariant places c.requires.b_value c.some_busy-is_busy.ensures) ∙ c.if-is_busy.false, ← c.free_place-q.ensures, lt-ltb _ _ c.if-q-ge-PLACES.false, le-ltb _ _ c.if-b-ge-NUMBERS.true) c.refused-then-b-ge-NUMBERS.ensures)
 
 pub begin_at-requires : goal.begin_at-requires
 unfolding free_place
 begin_at-requires c =
-    let last : c.loop-i.i ≡ c.args.b.count = omega (arith, c.loop-i.invariant.0) in
+    let last = all_items c.args.b c.requires.b_value (search rules) c.loop-i.i (omega arith) (omega arith) in
     record {
-      b_value = (c.requires.b_value, sym (touched-busy c.args.b (steps_of c.args.p) c.loop-i.set last c.loop-i.invariant.1 places c.requires.b_value c.some_busy-is_busy.ensures) ∙ c.if-is_busy.false);
+      b_value = (c.requires.b_value, sym (touched-busy c.args.b (steps_of c.args.p) c.loop-i.set last c.loop-i.invariant places c.requires.b_value c.some_busy-is_busy.ensures) ∙ c.if-is_busy.false);
       p_value = c.requires.p_value;
       q_value = (c.free_place-q.ensures, c.if-q-ge-PLACES.false, c.if-b-ge-NUMBERS.false);
-      set_value = all-touched c.args.b (steps_of c.args.p) c.loop-i.set last c.loop-i.invariant.1;
+      set_value = all-touched c.args.b (steps_of c.args.p) c.loop-i.set last c.loop-i.invariant;
     }
 
 pub returns : goal.returns
 unfolding first_of free_place
 returns c bytes good e =
-    let last : c.loop-i.i ≡ c.args.b.count = omega (arith, c.loop-i.invariant.0) in
+    let last = all_items c.args.b c.requires.b_value (search rules) c.loop-i.i (omega arith) (omega arith) in
     begin-later places c.args.b bytes c.requires.b_value good e c.requires.p_value
-    (rw (sym (touched-busy c.args.b (steps_of c.args.p) c.loop-i.set last c.loop-i.invariant.1 places c.requires.b_value c.some_busy-is_busy.ensures) ∙ c.if-is_busy.false, ← c.free_place-q.ensures, lt-ltb _ _ c.if-q-ge-PLACES.false, lt-ltb _ _ c.if-b-ge-NUMBERS.false) c.begin_at.ensures)
+    (rw (sym (touched-busy c.args.b (steps_of c.args.p) c.loop-i.set last c.loop-i.invariant places c.requires.b_value c.some_busy-is_busy.ensures) ∙ c.if-is_busy.false, ← c.free_place-q.ensures, lt-ltb _ _ c.if-q-ge-PLACES.false, lt-ltb _ _ c.if-b-ge-NUMBERS.false) c.begin_at.ensures)
