@@ -3,6 +3,7 @@ use mathlib.Core.Bool.{cond}
 use Prim.Native.Nat.{◌+◌}
 use Rattle.conditions.specs.Sets.{member}
 use Rattle.book.specs.declared.Book.{Book}
+use Rattle.book.specs.declared.begin.Room.{Room}
 use Rattle.book.specs.Records.{begin_record}
 use native.Mathlib.Omega.{arith}
 use Rattle.conditions.specs.Places.{places}
@@ -51,16 +52,16 @@ loop-i-preserved c =
     let row = begin-row places b (steps_of c.args.p) c.args.w c.requires.worked_out i (omega arith) (item_at c.loop-i.b i) c.touches.ensures c.begun_item.ensures in
     item-turn (begin_item places b (steps_of c.args.p)) b i c.loop-i.invariant held (omega (arith, c.requires.districts_le_most_districts.1)) row
 
-pub offset_bounds-b-q : goal.offset_bounds-b-q
-offset_bounds-b-q c = record { fits = omega (arith, c.requires.q_value.1) }
+pub offset_bounds-b-room : goal.offset_bounds-b-room
+offset_bounds-b-room c = record { fits = omega (arith, c.requires.room_value.1) }
 
-pub bounds-b-q : goal.bounds-b-q
-bounds-b-q c = omega (arith, c.requires.q_value.1)
+pub bounds-b-room : goal.bounds-b-room
+bounds-b-room c = omega (arith, c.requires.room_value.1)
 
 pub returns : goal.returns
 returns c =
     let b = c.args.b in
     let last : c.loop-i.i ≡ b.count = omega arith in
     let all = rw last at c.loop-i.invariant in
-    let records = c.begun_records-b.ensures ∙ ap (λ (now : Book). rows (λ d x. cond (member c.args.set d) (begin_record (b.last.0 + 1)) x) now.districts now.records) all in
-    begun-is places b (steps_of c.args.p) c.requires.districts_le_most_districts.0 all c.requires.q_value.2 records c.requires.q_value.0
+    let records = c.begun_records-b.ensures ∙ ap (λ (now : Book). rows (λ d x. cond (member c.args.room.districts d) (begin_record (b.last.0 + 1)) x) now.districts now.records) all in
+    begun-is places b (steps_of c.args.p) c.requires.districts_le_most_districts.0 all (ap (λ (r : Room). r.districts) c.requires.room_value.0) records (ap (λ (r : Room). r.place) c.requires.room_value.0)
