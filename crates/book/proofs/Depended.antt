@@ -83,11 +83,3 @@ depended-more w b i s {t} e f = gathered-more w _ i s (bit_or s t) e (λ q h. me
 pub all-depended : (w : ℕ) (b : Book) (s : ℕ) {i : ℕ} → i ≡ b.count → DependedBy w b i s → (q : ℕ) → q < w → member s q ≡ some_depends w b q
 unfolding some_depends
 all-depended w b s last e = rw last at e
-
--- ---- the tables of a book
-
--- a row of the districts
-pub district-in : (w : ℕ) (b : Book) (t : Tables) → TablesOf w b t → (d : ℕ)
-    → sound_district w b d ≡ cond (ltb d t.districts) (sound_record w b d (get_or t.records d no_record)) (zero_record (get_or t.records d no_record))
-unfolding sound_district
-district-in w b t o d = rw (o.districts, o.records)

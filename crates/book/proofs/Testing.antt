@@ -60,12 +60,6 @@ nothing-same {q} h =
     (blank-same (rows_of q) ∙ ap (λ (n : ℕ). same (rows_of q) (replicate n no_pair)) (rows_long all)
     ∙ same-paired q.values (packed []).values q.conditions (packed []).conditions (all.values ∙ sym all.conditions) refl)
 
--- ---- the place of a transaction
-
-pub place_in : (b : Book) (n : ℕ) {os : List Open} {q : ℕ} → b.«open» ≡ os → q ≡ first places (λ q. named n (get_or os q no_open)) → q ≡ place_of places b n
-unfolding place_of
-place_in b n e f = f ∙ ap (λ (l : List Open). first places (λ q. named n (get_or l q no_open))) (sym e)
-
 -- ---- what the sets say of a district: touched t, ready r, given up g, completed x
 
 pub at-cases : (t r g x : Bool) → (implies r (not g && t) && implies g t && implies (x && t) r) ≡ cond t (cond r (not g) (not x)) (cond r false (not g))

@@ -64,8 +64,10 @@ fn sound_taken(b: &Book, n: u16, x: Item, its: u8) -> bool
     if !x.pending.is_sound() {
         return false;
     }
-    let q = place_of(b.open, TransactionNumber(n));
-    !has(its, q) && x.held.together(x.pending) <= PAIRS
+    if place_of(b.open, TransactionNumber(n)).is_some_and(|q| has(its, q)) {
+        return false;
+    }
+    x.held.together(x.pending) <= PAIRS
 }
 
 // Whether an item below the count, which depends on its places, is sound.
