@@ -35,36 +35,30 @@ impl Alternative {
         ensures condition_value { number result.condition ≡ intersection places (number self.condition) (assignments pair) }
         ensures state_value { result.state ≡ state_rows (takes (state_of self.state) item pair.value) }
     {
-        let value = pair.value;
         let condition = self.condition.intersection(pair.condition);
-        let state = self.state.with(item, Value(value));
+        let state = self.state.with(item, Value(pair.value));
         Alternative { condition, state }
     }
 }
 
 // The block of the assignment, and the held values that it chooses.
-fn alternative_under(b: Book, p: Program, assignment: usize) -> Alternative
-    requires { b.count ≤ most_items }
-    ensures condition_value { number result.condition ≡ block places b (steps_of p) assignment }
-    ensures starts_as { StartsAs b (steps_of p) assignment b.count result.state }
+fn alternative_under(b: &Book, p: Program, assignment: usize) -> Alternative
+    requires { b.now.count ≤ most_items }
+    ensures condition_value { number result.condition ≡ block places b.now (steps_of p) assignment }
+    ensures starts_as { StartsAs b.now (steps_of p) assignment b.now.count result.state }
 {
-    let n = b.count;
-    let blank = Value(0);
-    let state = State {
-        values: [blank; ITEMS],
-    };
     let mut done = Alternative {
         condition: Condition::FULL,
-        state,
+        state: State {
+            values: [Value(0); ITEMS],
+        },
     };
-    let mut i: usize = 0;
-    while i < n {
+    for i in 0..b.count {
         let x = b.items[i];
         if p.touches(i) {
             let pair = x.held.applying(assignment);
             done = done.with(i, pair);
         }
-        i += 1;
     }
     done
 }
@@ -133,18 +127,28 @@ impl Worked {
             new,
         })
     }
+
+    // 1 if no assignment declines, 0 if all do, 2 otherwise.
+    pub(crate) fn granted(&self) -> u8
+        ensures { result ≡ grant_of self.now.declines self.now.grants }
+    {
+        match (self.declines, self.grants) {
+            (false, _) => 1,
+            (true, false) => 0,
+            (true, true) => 2,
+        }
+    }
 }
 
 // Nothing is worked out yet.
 fn nothing_worked() -> Worked
     ensures { result ≡ nothing_worked }
 {
-    let none = Polyvalue::nothing();
     Worked {
         declines: false,
         grants: false,
         covered: Condition::EMPTY,
-        new: [none; ITEMS],
+        new: [Polyvalue::nothing(); ITEMS],
     }
 }
 
@@ -157,7 +161,7 @@ pub(crate) fn worked_out(b: Book, p: Program) -> Option<Worked>
     let mut done = nothing_worked();
     let mut next: usize = 0;
     while next < ASSIGNMENTS {
-        let start = alternative_under(b, p, next);
+        let start = alternative_under(&b, p, next);
         done = done.after(b.count, p, start)?;
         next = done.covered.complement().lowest();
     }
@@ -168,17 +172,14 @@ pub(crate) fn worked_out(b: Book, p: Program) -> Option<Worked>
 fn over_room(x: Item, new: Polyvalue, touched: bool) -> bool
     ensures { result ≡ (touched && ltb most_pairs (together (in_use x.held) (in_use new))) }
 {
-    if touched {
-        return PAIRS < x.held.together(new);
-    }
-    false
+    touched && PAIRS < x.held.together(new)
 }
 
 // Whether those of some item are.
-pub(crate) fn too_many(b: Book, p: Program, w: Worked) -> bool
-    requires count_le_most_items { b.count ≤ most_items }
-    requires worked_out { WorkedOut places b (steps_of p) w }
-    ensures { result ≡ too_many places b (steps_of p) }
+pub(crate) fn too_many(b: &Book, p: Program, w: &Worked) -> bool
+    requires count_le_most_items { b.now.count ≤ most_items }
+    requires worked_out { WorkedOut places b.now (steps_of p) w.now }
+    ensures { result ≡ too_many places b.now (steps_of p) }
 {
     for i in 0..b.count {
         if over_room(b.items[i], w.new[i], p.touches(i)) {
@@ -186,17 +187,4 @@ pub(crate) fn too_many(b: Book, p: Program, w: Worked) -> bool
         }
     }
     false
-}
-
-// 1 if no assignment declines, 0 if all do, 2 otherwise.
-pub(crate) fn granted(declines: bool, grants: bool) -> u8
-    ensures { result ≡ grant_of declines grants }
-{
-    if declines {
-        if grants {
-            return 2;
-        }
-        return 0;
-    }
-    1
 }

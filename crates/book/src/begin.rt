@@ -10,7 +10,7 @@ ghost use Rattle.book.specs.Alternatives.{WorkedOut};
 ghost use Rattle.book.specs.Begin.{bad_program, outside, some_busy, too_many, touches_district, begun, begins, begin};
 ghost use Rattle.book.specs.SoundTest.{sound};
 
-use crate::alternatives::{Worked, granted, too_many, worked_out};
+use crate::alternatives::{Worked, too_many, worked_out};
 use crate::program::{Program, bad_program, read};
 use crate::tables::free_place;
 use crate::touched::{begun_records, some_busy, with_district};
@@ -92,10 +92,10 @@ fn begin_at(b: Book, p: Program, q: usize, set: u8) -> Begun
     let Some(w) = worked_out(b, p) else {
         return refused(b, Refusal::TooManyValues);
     };
-    if too_many(b, p, w) {
+    if too_many(&b, p, &w) {
         return refused(b, Refusal::TooManyValues);
     }
-    let grant = granted(w.declines, w.grants);
+    let grant = w.granted();
     let after = begun(b, p, w, q, set);
     let number = after.last;
     Begun {

@@ -7,7 +7,7 @@ ghost use Rattle.conditions.specs.Conditions.{number, union, intersection, compl
 use crate::place::{ASSIGNMENTS, PLACES, Place};
 
 // Bit n is 1 where the assignment n is a member.
-#[derive(Clone, Copy, Debug, PartialEq, Eq, Hash)]
+#[derive(Clone, Copy, Debug, PartialEq, Eq)]
 pub struct Condition(pub(crate) u64);
 
 // For each place, the assignments in which it is completed.

@@ -21,7 +21,7 @@ use crate::place::{PLACES, Place};
 use crate::table::ALLOWED;
 
 // A product, by its number. Digits past the last place say nothing.
-#[derive(Clone, Copy, Debug, PartialEq, Eq, PartialOrd, Ord, Hash)]
+#[derive(Clone, Copy, Debug, PartialEq, Eq, PartialOrd, Ord)]
 pub struct Product(pub usize);
 
 // What a digit counts, by its place; the last one is the number of products.
@@ -51,7 +51,8 @@ impl Tag {
         match digit {
             0 => Tag::Absent,
             1 => Tag::Completed,
-            _ => Tag::Aborted,
+            2 => Tag::Aborted,
+            _ => unreachable!(),
         }
     }
 }

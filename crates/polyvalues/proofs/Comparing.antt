@@ -1,24 +1,40 @@
 -- Two lists of pairs side by side, row by row.
 use mathlib.Core.Path.{◌≡◌, refl, sym, ap, ◌∙◌}
-use mathlib.Core.Bool.{Bool, true, false, not, ◌&&◌, ◌||◌, false≢true}
+use mathlib.Core.Bool.{Bool, true, false, not, ◌&&◌, ◌||◌, true≢false, false≢true}
 use mathlib.Core.List.{List, [], ◌∷◌, ◌++◌, append-nil}
-use Prim.Native.Nat.{ℕ, suc, ◌+◌}
+use Prim.Native.Nat.{ℕ, suc, ◌+◌, ◌<◌}
+use native.Mathlib.Numerals.{add-one}
 use native.Mathlib.Nat.{add-zero}
 use lib.Dec.{eqb}
 use lib.IntN.{ℤ}
-use lib.ListN.{length}
+use Rattle.std.specs.Ordering.{int_eq}
+use Rattle.std.proofs.lemmas.Bool.Decides.{Decides-int_eq}
+use lib.ListN.{length, get_or, drop}
+use mir.Val.{bool_byte}
 use Rattle.conditions.specs.Sets.{digit}
 use Rattle.conditions.proofs.Laws.Below.{and_right, by_cases}
 use Rattle.polyvalues.specs.declared.polyvalue.Pair.{Pair}
 use Rattle.polyvalues.specs.declared.polyvalue.Polyvalue.{Polyvalue}
 use Rattle.polyvalues.specs.Values.{equal}
-use Rattle.polyvalues.specs.Pairs.{assignments}
-use Rattle.polyvalues.specs.Polyvalues.{in_use, packed}
-use Rattle.polyvalues.specs.Operations.{occurs, different, together, same}
+use Rattle.polyvalues.specs.Pairs.{no_pair, assignments}
+use Rattle.polyvalues.specs.Polyvalues.{rows_of, in_use, packed}
+use Rattle.polyvalues.specs.Operations.{same_pair, occurs, different, together, same}
+use Rattle.polyvalues.proofs.Laws.Values.{equal-refl, not_equal}
 use Rattle.polyvalues.proofs.Laws.Room.{occurs-append}
+use Rattle.polyvalues.proofs.Inserting.{in_use-row}
 use Rattle.polyvalues.proofs.Joining.{packed-in_use}
 
 -- ---- the same pairs
+
+equal-is : (x y : ℤ) → int_eq x y ≡ equal x y
+equal-is x y =
+    by_cases (int_eq x y)
+    (λ e. let q : x ≡ y = (Decides-int_eq x y).0 e in e ∙ sym (ap (equal x) (sym q) ∙ equal-refl x))
+    (λ e. e ∙ sym (not_equal x y (λ q. true≢false (sym ((Decides-int_eq x y).1 q) ∙ e))))
+
+-- two pairs as the derive compares them
+pub pair-same : (p q : Pair) → (int_eq p.value q.value && eqb (assignments p) (assignments q)) ≡ same_pair p q
+pair-same p q = ap (λ (e : Bool). e && eqb (assignments p) (assignments q)) (equal-is p.value q.value)
 
 same_length : (ps qs : List Pair) → same ps qs ≡ true → length ps ≡ length qs
 same_length [] [] e = refl
@@ -34,6 +50,19 @@ same_not ps qs n = by_cases (same ps qs) (λ e. absurd (n (same_length ps qs e))
 -- a value adds nothing where it occurs later, or in the other list, and else 1
 pub adds-is : (v : ℤ) (ps qs : List Pair) {x y : Bool} → occurs v ps ≡ x → occurs v qs ≡ y → digit (not (x || y)) ≡ digit (not (occurs v (ps ++ qs)))
 adds-is v ps qs e f = rw (occurs-append v ps qs, e, f)
+
+-- of the value of row i
+pub adds-row : (q o : Polyvalue) (i : ℕ) {row : Pair} → row ≡ get_or (rows_of q) i no_pair → i < length (in_use q) → {x y : Bool} → x ≡ occurs row.value (drop (i + 1) (in_use q)) → y ≡ occurs row.value (in_use o)
+    → digit (not (x || y)) ≡ digit (not (occurs (get_or (in_use q) i no_pair).value (drop (suc i) (in_use q) ++ in_use o)))
+adds-row q o i {row} at h e f =
+    let same : get_or (in_use q) i no_pair ≡ row = in_use-row q i at h in
+    adds-is (get_or (in_use q) i no_pair).value (drop (suc i) (in_use q)) (in_use o)
+    (ap (λ (p : Pair). occurs p.value (drop (suc i) (in_use q))) same ∙ sym (rw add-one at e))
+    (ap (λ (p : Pair). occurs p.value (in_use o)) same ∙ sym f)
+
+pub byte-digit : (b : Bool) → bool_byte b ≡ digit b
+byte-digit true = refl
+byte-digit false = refl
 
 -- ---- values together
 

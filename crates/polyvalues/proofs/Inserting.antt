@@ -1,15 +1,15 @@
 -- A pair joined into the rows of a polyvalue: what the code leaves is what the definition says, packed.
 use mathlib.Core.Path.{◌≡◌, refl, sym, ap, ap₂, ◌∙◌}
 use mathlib.Core.Bool.{Bool, true, false, ◌&&◌, true≢false}
-use mathlib.Core.List.{List, [], ◌∷◌, ◌++◌, append-nil, append_assoc}
+use mathlib.Core.List.{List, [], ◌∷◌, ◌++◌, append_assoc}
 use Prim.Native.Nat.{ℕ, suc, ◌+◌, ◌-◌, ◌≤◌, ◌<◌, min}
 use native.Mathlib.Omega.{arith}
 use lib.Dec.{leb, ltb}
 use lib.IntN.{ℤ}
-use lib.ListN.{length, get_or, take, drop, set, replicate, length-append, length-take, length-drop, length-set, length-replicate, length-map, replicate-append-replicate, take-append-drop, drop_of_length-le}
+use lib.ListN.{length, get_or, take, drop, set, replicate, length-append, length-take, length-drop, length-set, length-map}
 use Rattle.std.specs.Prelude.{Some, None, Ok, is_some}
 use Rattle.std.specs.Result.{result_ok}
-use lib.Seq.{take_at, drop-cons, take-append-le, drop-append-le, set-append_left, set_at}
+use lib.Seq.{take-append-le, drop-append-le, set-append_left}
 use borrow.Author.Tests.{ltb-true, le-leb, lt-leb, leb-true, leb-false, lt-ltb}
 use Rattle.conditions.specs.declared.condition.Condition.{Condition}
 use Rattle.conditions.specs.Places.{places}
@@ -21,7 +21,7 @@ use Rattle.polyvalues.specs.declared.polyvalue.Pair.{Pair}
 use Rattle.polyvalues.specs.declared.polyvalue.Polyvalue.{Polyvalue}
 use Rattle.polyvalues.specs.Values.{below, equal}
 use Rattle.polyvalues.specs.Pairs.{pair, assignments, no_pair, certain}
-use Rattle.polyvalues.specs.Polyvalues.{most_pairs, paired, rows_of, in_use, padded, packed, fitting, fitted, AllRows}
+use Rattle.polyvalues.specs.Polyvalues.{most_pairs, rows_of, in_use, padded, packed, fitting, fitted, AllRows}
 use Rattle.polyvalues.specs.Simplify.{insert}
 use Rattle.polyvalues.specs.Rows.{value_at, PlaceOf, has_at, carried, moved}
 use Rattle.polyvalues.proofs.Laws.Values.{equal-true, below-else}
@@ -186,25 +186,3 @@ pub certain-packed : {q : Polyvalue} {v z : ℤ} → q ≡ packed [] → z ≡ v
 unfolding packed certain
 certain-packed {q} {v} e f =
     λ i. record { count = 1; values = set (e i).values 0 (f i); conditions = set (e i).conditions 0 (of_number (always-full i)) }
-
--- ---- rows past those in use set to zero
-
-pub zeros-none : (n : ℕ) (ps : List Pair) → take n ps ++ replicate (n - n) no_pair ++ drop n ps ≡ ps
-zeros-none n ps = let e : n - n ≡ 0 = omega arith in rw (e, append-nil) (take-append-drop n ps)
-
-pub zeros-more : (n i : ℕ) (ps : List Pair) → n ≤ i → i < length ps
-    → set (take n ps ++ replicate (i - n) no_pair ++ drop i ps) i no_pair ≡ take n ps ++ replicate (suc i - n) no_pair ++ drop (suc i) ps
-zeros-more n i ps h l =
-    let e : suc i - n ≡ (i - n) + 1 = omega arith in
-    let long : length (take n ps ++ replicate (i - n) no_pair) ≡ i = omega (arith, length-append (take n ps) (replicate (i - n) no_pair), length-take n ps, length-replicate (i - n) no_pair) in
-    rw (drop-cons ps i no_pair l, set_at (take n ps ++ replicate (i - n) no_pair) (get_or ps i no_pair) (drop (suc i) ps) no_pair i long, e, ← replicate-append-replicate (i - n) 1 no_pair)
-    (simp append_assoc)
-
-pub zeros-all : (q : Polyvalue) (n : ℕ) {vs : List ℤ} {cs : List Condition} → length (rows_of q) ≡ most_pairs → n ≡ length (in_use q) → n ≤ most_pairs → length vs ≡ length cs
-    → paired vs cs ≡ take n (rows_of q) ++ replicate (most_pairs - n) no_pair ++ drop most_pairs (rows_of q) → record { count = n; values = vs; conditions = cs } ≡ packed (in_use q)
-unfolding in_use
-zeros-all q n l e h even f =
-    packed-is (take q.count (rows_of q)) e even
-    (f ∙ ap (λ (z : List Pair). take n (rows_of q) ++ replicate (most_pairs - n) no_pair ++ z) (drop_of_length-le (rows_of q) {i = most_pairs} (omega arith))
-    ∙ append-nil _ ∙ ap₂ (λ (x : List Pair) (k : ℕ). x ++ replicate (most_pairs - k) no_pair)
-    (ap (take n) (sym (take-append-drop q.count (rows_of q))) ∙ take_at (take q.count (rows_of q)) (drop q.count (rows_of q)) n (sym e)) e)

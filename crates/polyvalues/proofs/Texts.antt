@@ -1,19 +1,18 @@
 -- Values, pairs and lines of pairs, as the code measures and puts them.
 use mathlib.Core.Path.{◌≡◌, refl, sym, ap, ◌∙◌}
-use mathlib.Core.Bool.{Bool, true, false, cond, true≢false}
+use mathlib.Core.Bool.{Bool, true, false, cond}
 use mathlib.Core.List.{List, [], ◌++◌, map}
-use Prim.Native.Nat.{ℕ, suc, ◌+◌, ◌-◌, ◌≤◌, ◌<◌}
+use Prim.Native.Nat.{ℕ, suc, ◌+◌, ◌≤◌, ◌<◌}
 use Prim.Native.Char.{code}
 use native.Mathlib.Numerals.{add-one}
 use native.Mathlib.Omega.{arith}
-use lib.Dec.{T}
 use lib.IntN.{ℤ, pos, negsuc, nat_abs}
 use lib.ListN.{length, get_or, drop, length-append, drop_of_length-le}
-use lib.Signed.{non_neg}
 use mir.Facts.{to_z-of_z}
 use mir.Syntax.{w16}
 use mir.Val.{SFits, of_z, to_z}
-use borrow.Author.Tests.{lt-ltb, ltb-true}
+use borrow.Author.Tests.{le-ltb}
+use Rattle.std.specs.Prelude.{unsigned_abs}
 use Rattle.conditions.specs.Text.{bytes, decimal, prefixed, condition_text}
 use Rattle.conditions.specs.Written.{Put}
 use Rattle.conditions.proofs.Putting.{put-none, put_then, put-length}
@@ -27,34 +26,18 @@ use Rattle.polyvalues.proofs.Joining.{in_use-more}
 
 -- ---- a value: its sign, and its distance from zero
 
--- a value as the code sees it that is handed one, and with all its bits exchanged
+-- a value as the code sees it that is handed one
 abbrev pub handed : ℤ → ℤ
 handed v = to_z w16 (of_z w16 v)
 
-abbrev inverted : ℤ → ℤ
-inverted v = to_z w16 (65535 - of_z w16 v)
-
-inverted-is : (n : ℕ) → n < 32768 → inverted (negsuc n) ≡ pos n
-inverted-is n h = let e : 65535 - (65536 - suc n) ≡ n = omega arith in rw (e, lt-ltb n 32768 h)
-
 -- a sign where the value is below zero, and the number n
-abbrev signed_text : ℤ → ℕ → List ℕ
+abbrev pub signed_text : ℤ → ℕ → List ℕ
 signed_text v n = cond (below v (pos 0)) (bytes "-") [] ++ decimal n
 
-pub distance-below : (v : ℤ) → SFits w16 v → below (handed v) (pos 0) ≡ true
-    → T (non_neg (inverted v)) × (nat_abs (inverted v) < 32768) × (value_text v ≡ signed_text v (nat_abs (inverted v) + 1))
+pub text-is : (v : ℤ) → value_text v ≡ signed_text v (unsigned_abs v)
 unfolding value_text
-distance-below (pos n) f e = absurd (omega (arith, ltb-true n 0 (rw (to_z-of_z f) at e)))
-distance-below (negsuc n) f e = let h : n < 32768 = f.sfits in rw (inverted-is n h, add-one n) (tt, h, refl)
-
-pub distance-above : (v : ℤ) → SFits w16 v → below (handed v) (pos 0) ≡ false
-    → T (non_neg (handed v)) × (nat_abs (handed v) < 32768) × (value_text v ≡ signed_text v (nat_abs (handed v)))
-unfolding value_text
-distance-above (pos n) f e =
-    let h : n < 32768 = f.sfits in
-    let plain : below (pos n) (pos 0) ≡ false = rw (to_z-of_z f) at e in
-    rw (to_z-of_z f, plain) (tt, h, refl)
-distance-above (negsuc n) f e = absurd (true≢false (rw (to_z-of_z f) at e))
+text-is (pos n) = let plain : below (pos n) (pos 0) ≡ false = le-ltb n 0 (omega arith) in rw plain
+text-is (negsuc n) = refl
 
 pub handed-text : {v : ℤ} → SFits w16 v → value_text (handed v) ≡ value_text v
 handed-text f = ap value_text (to_z-of_z f)

@@ -4,21 +4,9 @@ ghost use Rattle.std.specs.Prelude.{◌≡◌, not, ◌++◌, ◌+◌, ◌<◌, 
 ghost use Rattle.conditions.specs.Sets.{digit};
 ghost use Rattle.polyvalues.specs.Pairs.{no_pair};
 ghost use Rattle.polyvalues.specs.Polyvalues.{most_pairs, in_use};
-ghost use Rattle.polyvalues.specs.Operations.{same_pair, occurs, different, together, same};
+ghost use Rattle.polyvalues.specs.Operations.{occurs, different, together, same};
 
 use crate::polyvalue::{Pair, Polyvalue};
-
-impl Pair {
-    // Whether it is the same value under the same condition.
-    pub(crate) fn same(self, other: Pair) -> bool
-        ensures { result ≡ same_pair self other }
-    {
-        if !self.equal(other) {
-            return false;
-        }
-        self.condition.same(other.condition)
-    }
-}
 
 impl Polyvalue {
     // Whether two polyvalues are the same pairs.
@@ -30,9 +18,7 @@ impl Polyvalue {
             return false;
         }
         for i in 0..n {
-            let row = self.row(i);
-            let twin = other.row(i);
-            if !row.same(twin) {
+            if self.row(i) != other.row(i) {
                 return false;
             }
         }
@@ -44,8 +30,7 @@ impl Polyvalue {
         ensures { result ≡ occurs pair.value (drop from (in_use self)) }
     {
         for i in from..self.len() {
-            let row = self.row(i);
-            if pair.equal(row) {
+            if self.row(i).value == pair.value {
                 return true;
             }
         }
@@ -59,13 +44,7 @@ impl Polyvalue {
         ensures upper_bound { result ≤ 1 }
     {
         let row = self.row(i);
-        if self.occurs(row, i + 1) {
-            return 0;
-        }
-        if other.occurs(row, 0) {
-            return 0;
-        }
-        1
+        usize::from(!self.occurs(row, i + 1) && !other.occurs(row, 0))
     }
 
     // How many values it adds to those of the other polyvalue.

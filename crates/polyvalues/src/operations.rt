@@ -14,7 +14,7 @@ use conditions::{Condition, Place};
 
 // What becomes of each condition: a place is set to an outcome, or the condition is cut to where the
 // place is completed, or to where it is aborted.
-#[derive(Clone, Copy)]
+#[derive(Clone, Copy, Debug, PartialEq, Eq)]
 pub enum Cut {
     Reduced(bool),
     Completed,
@@ -36,10 +36,10 @@ fn cut_condition(c: Condition, place: Place, how: Cut) -> Condition
 fn cut_pair(row: Pair, place: Place, how: Cut) -> Pair
     ensures { result ≡ pair row.value (cut places place.0 how (assignments row)) }
 {
-    let mut new = row;
-    let condition = cut_condition(row.condition, place, how);
-    new.condition = condition;
-    new
+    Pair {
+        value: row.value,
+        condition: cut_condition(row.condition, place, how),
+    }
 }
 
 impl Polyvalue {
@@ -117,9 +117,6 @@ impl Polyvalue {
                 return row;
             }
         }
-        Pair {
-            value: 0,
-            condition: Condition::EMPTY,
-        }
+        Pair::ZERO
     }
 }

@@ -1,18 +1,16 @@
 // Pairs of value and condition, and the polyvalue as the code keeps it.
 ghost use Rattle.std.specs.Prelude.{◌≡◌, [], ◌≤◌, ◌<◌, length, get_or};
 ghost use Rattle.conditions.specs.Places.{places};
-ghost use Rattle.polyvalues.specs.Values.{below, equal};
 ghost use Rattle.polyvalues.specs.Pairs.{no_pair, certain};
 ghost use Rattle.polyvalues.specs.Polyvalues.{most_pairs, rows_of, in_use, packed};
 
-use crate::value::{below, equal};
 use conditions::Condition;
 
 // How many pairs a polyvalue has room for.
 pub const PAIRS: usize = 8;
 
 // A value and the condition under which it applies.
-#[derive(Clone, Copy)]
+#[derive(Clone, Copy, Debug, PartialEq, Eq)]
 pub struct Pair {
     pub value: i16,
     pub condition: Condition,
@@ -20,7 +18,7 @@ pub struct Pair {
 
 // The first `count` rows count; the rows past them are zero. A row is a value and the condition at
 // the same index: in arrays of their own they need no padding, and rows of zeros are told at once.
-#[derive(Clone, Copy)]
+#[derive(Clone, Copy, Debug, PartialEq, Eq)]
 pub struct Polyvalue {
     pub count: usize,
     pub values: [i16; PAIRS],
@@ -29,27 +27,15 @@ pub struct Polyvalue {
 
 // Why nothing could be joined into a polyvalue: there is no room for a ninth value. The polyvalue, as
 // it was.
-#[derive(Clone, Copy)]
+#[derive(Clone, Copy, Debug, PartialEq, Eq)]
 pub struct NinthValue(pub Polyvalue);
 
 impl Pair {
-    // Whether its value is below the other's.
-    pub(crate) fn below(self, other: Pair) -> bool
-        ensures { result ≡ below self.value other.value }
-    {
-        let a = self.value;
-        let b = other.value;
-        below(a, b)
-    }
-
-    // Whether they have the same value.
-    pub(crate) fn equal(self, other: Pair) -> bool
-        ensures { result ≡ equal self.value other.value }
-    {
-        let a = self.value;
-        let b = other.value;
-        equal(a, b)
-    }
+    // A row that holds zeros.
+    pub(crate) const ZERO: Pair = Pair {
+        value: 0,
+        condition: Condition::EMPTY,
+    };
 }
 
 impl Polyvalue {
@@ -58,9 +44,10 @@ impl Polyvalue {
         requires { i < most_pairs }
         ensures { result ≡ get_or (rows_of self) i no_pair }
     {
-        let value = self.values[i];
-        let condition = self.conditions[i];
-        Pair { value, condition }
+        Pair {
+            value: self.values[i],
+            condition: self.conditions[i],
+        }
     }
 
     // How many rows are in use: any count may be handed in.
@@ -68,11 +55,7 @@ impl Polyvalue {
         ensures value { result ≡ length (in_use self) }
         ensures upper_bound { result ≤ most_pairs }
     {
-        let n = self.count;
-        if PAIRS < n {
-            return PAIRS;
-        }
-        n
+        self.count.min(PAIRS)
     }
 
     // The rows past those in use set to zero.
@@ -82,12 +65,8 @@ impl Polyvalue {
         let n = self.len();
         let mut values = self.values;
         let mut conditions = self.conditions;
-        let mut i = n;
-        while i < PAIRS {
-            values[i] = 0;
-            conditions[i] = Condition::EMPTY;
-            i += 1;
-        }
+        values[n..].fill(0);
+        conditions[n..].fill(Condition::EMPTY);
         Polyvalue {
             count: n,
             values,

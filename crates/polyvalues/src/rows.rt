@@ -17,8 +17,7 @@ fn place_of(q: Polyvalue, new: Pair) -> usize
     ensures { PlaceOf q new.value result }
 {
     for k in 0..q.count {
-        let row = q.row(k);
-        if !row.below(new) {
+        if q.row(k).value >= new.value {
             return k;
         }
     }
@@ -30,11 +29,7 @@ fn has_at(q: Polyvalue, k: usize, new: Pair) -> bool
     requires { q.count ≤ most_pairs }
     ensures { result ≡ has_at q k new.value }
 {
-    if k < q.count {
-        let row = q.row(k);
-        return row.equal(new);
-    }
-    false
+    k < q.count && q.row(k).value == new.value
 }
 
 // The rows from k to n moved down by one, with a new one at k.
@@ -43,17 +38,10 @@ fn moved(q: Polyvalue, k: usize, n: usize, new: Pair) -> Polyvalue
     ensures { rows_of result ≡ moved k n new (rows_of q) }
 {
     let mut rows = q;
-    let mut carry = new;
-    let mut i = k;
-    while i <= n {
-        let row = rows.row(i);
-        let value = carry.value;
-        let condition = carry.condition;
-        rows.values[i] = value;
-        rows.conditions[i] = condition;
-        carry = row;
-        i += 1;
-    }
+    rows.values.copy_within(k..n, k + 1);
+    rows.conditions.copy_within(k..n, k + 1);
+    rows.values[k] = new.value;
+    rows.conditions[k] = new.condition;
     rows
 }
 
@@ -61,10 +49,11 @@ fn moved(q: Polyvalue, k: usize, n: usize, new: Pair) -> Polyvalue
 fn united(row: Pair, new: Pair) -> Pair
     ensures { result ≡ pair new.value (union places (assignments row) (assignments new)) }
 {
-    let mut both = new;
     let condition = row.condition.union(new.condition);
-    both.condition = condition;
-    both
+    Pair {
+        value: new.value,
+        condition,
+    }
 }
 
 // The new pair among rows whose values rise: at its place, or united with the row of its value.
@@ -75,25 +64,20 @@ fn inserted(q: Polyvalue, new: Pair) -> Option<Polyvalue>
     let k = place_of(q, new);
     let n = q.count;
     if has_at(q, k, new) {
-        let mut joined = q;
         let row = q.row(k);
         let both = united(row, new);
-        let value = both.value;
-        let condition = both.condition;
-        joined.values[k] = value;
-        joined.conditions[k] = condition;
+        let mut joined = q;
+        joined.values[k] = both.value;
+        joined.conditions[k] = both.condition;
         return Some(joined);
     }
     if PAIRS <= n {
         return None;
     }
     let rows = moved(q, k, n, new);
-    let values = rows.values;
-    let conditions = rows.conditions;
     Some(Polyvalue {
         count: n + 1,
-        values,
-        conditions,
+        ..rows
     })
 }
 

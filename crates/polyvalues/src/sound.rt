@@ -17,34 +17,24 @@ impl Pair {
     fn is_blank(self) -> bool
         ensures { result ≡ blank self }
     {
-        let zero_row = Pair {
-            value: 0,
-            condition: Condition::EMPTY,
-        };
-        self.same(zero_row)
+        self == Pair::ZERO
     }
 
     // Whether its value may be one.
     fn in_range(self) -> bool
         ensures { result ≡ in_range self.value }
     {
-        in_range(self.value as i32)
+        in_range(i32::from(self.value))
     }
 
     // Whether it may follow a row, where the conditions before it are covered.
     fn follows(self, row: Pair, covered: Condition) -> bool
         ensures { result ≡ row_fits places row.value (number covered) self }
     {
-        if !row.below(self) {
-            return false;
-        }
-        if !self.in_range() {
-            return false;
-        }
-        if self.condition.is_empty() {
-            return false;
-        }
-        covered.intersection(self.condition).is_empty()
+        row.value < self.value
+            && self.in_range()
+            && !self.condition.is_empty()
+            && covered.intersection(self.condition).is_empty()
     }
 }
 
@@ -100,12 +90,6 @@ impl Polyvalue {
     pub fn is_sound(self) -> bool
         ensures { result ≡ sound places self }
     {
-        if PAIRS < self.count {
-            return false;
-        }
-        if !self.is_tidy() {
-            return false;
-        }
-        self.is_checked()
+        self.count <= PAIRS && self.is_tidy() && self.is_checked()
     }
 }

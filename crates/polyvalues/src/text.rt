@@ -19,10 +19,7 @@ fn distance(v: i16) -> u64
     ensures v_value { value_text v ≡ cond (below v (pos 0)) (bytes "-") [] ++ decimal result }
     ensures upper_bound { result ≤ 2 ^ 15 }
 {
-    if v < 0 {
-        return ((!v) as u64) + 1;
-    }
-    v as u64
+    u64::from(v.unsigned_abs())
 }
 
 // How many bytes the value takes in decimal.

@@ -1,5 +1,5 @@
 -- Values and conditions in arrays of their own, and the rows that they make.
-use mathlib.Core.Path.{◌≡◌, refl, sym, ap, ◌∙◌}
+use mathlib.Core.Path.{◌≡◌, refl, sym, ap, ap₂, ◌∙◌}
 use mathlib.Core.List.{List, [], ◌∷◌, map}
 use Prim.Native.Nat.{ℕ, zero, suc, ◌-◌, ◌≤◌}
 use native.Mathlib.Omega.{arith}
@@ -32,16 +32,20 @@ paired-set (x ∷ vs) (d ∷ cs) (suc i) v c = ap (λ (l : List Pair). record { 
 
 -- ---- where there are as many conditions as values
 
-values-paired : (vs : List ℤ) (cs : List Condition) → length vs ≡ length cs → map (λ p. p.value) (paired vs cs) ≡ vs
+pub values-paired : (vs : List ℤ) (cs : List Condition) → length vs ≡ length cs → map (λ p. p.value) (paired vs cs) ≡ vs
 values-paired [] cs e = refl
 values-paired (v ∷ vs) [] e = absurd (omega arith)
 values-paired (v ∷ vs) (c ∷ cs) e = ap (λ (l : List ℤ). v ∷ l) (values-paired vs cs (omega arith))
 
-conditions-paired : (vs : List ℤ) (cs : List Condition) → length vs ≡ length cs → map (λ p. p.condition) (paired vs cs) ≡ cs
+pub conditions-paired : (vs : List ℤ) (cs : List Condition) → length vs ≡ length cs → map (λ p. p.condition) (paired vs cs) ≡ cs
 conditions-paired [] [] e = refl
 conditions-paired [] (c ∷ cs) e = absurd (omega arith)
 conditions-paired (v ∷ vs) [] e = absurd (omega arith)
 conditions-paired (v ∷ vs) (c ∷ cs) e = ap (λ (l : List Condition). c ∷ l) (conditions-paired vs cs (omega arith))
+
+-- what makes values and conditions of these rows makes these rows
+pub paired-is : (ps : List Pair) {vs : List ℤ} {cs : List Condition} → vs ≡ map (λ p. p.value) ps → cs ≡ map (λ p. p.condition) ps → paired vs cs ≡ ps
+paired-is ps e f = ap₂ paired e f ∙ paired-of ps
 
 pub packed-is : (ps : List Pair) {n : ℕ} {vs : List ℤ} {cs : List Condition} → n ≡ length ps → length vs ≡ length cs → paired vs cs ≡ padded ps
     → ◌≡◌ {A = Polyvalue} (record { count = n; values = vs; conditions = cs }) (packed ps)

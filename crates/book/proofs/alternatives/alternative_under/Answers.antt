@@ -22,28 +22,25 @@ bounds-b-i c = omega (arith, c.requires)
 pub with-done-requires : goal.with-done-requires
 with-done-requires c = omega (arith, c.requires)
 
-pub loop-i-smaller : goal.loop-i-smaller
-loop-i-smaller c = omega arith
-
 pub loop-i-preserved : goal.loop-i-preserved
 loop-i-preserved c =
     let a = c.args in
     let at_item = c.loop-i.invariant in
-    let h : c.loop-i.i < a.b.count = omega arith in
+    let h : c.loop-i.i < a.b.now.count = omega arith in
     rw add-one
     (elim c.if-touches.branch [
       | then-touches w ↦
-          subst⁻¹ (Choosing a.b (steps_of a.p) a.assignment (suc c.loop-i.i)) w.done-is
-          (choosing-touched a.b (steps_of a.p) a.assignment c.loop-i.i c.requires h at_item (sym c.touches.ensures ∙ w.if-touches.true) w.applying-pair.ensures (w.with-done.ensures.condition_value, w.with-done.ensures.state_value))
+          subst⁻¹ (Choosing a.b.now (steps_of a.p) a.assignment (suc c.loop-i.i)) w.done-is
+          (choosing-touched a.b.now (steps_of a.p) a.assignment c.loop-i.i c.requires h at_item (sym c.touches.ensures ∙ w.if-touches.true) w.applying-pair.ensures (w.with-done.ensures.condition_value, w.with-done.ensures.state_value))
       | else-touches w ↦
-          subst⁻¹ (Choosing a.b (steps_of a.p) a.assignment (suc c.loop-i.i)) w.done-is
-          (choosing-other a.b (steps_of a.p) a.assignment c.loop-i.i c.requires h at_item (sym c.touches.ensures ∙ w.if-touches.false))
+          subst⁻¹ (Choosing a.b.now (steps_of a.p) a.assignment (suc c.loop-i.i)) w.done-is
+          (choosing-other a.b.now (steps_of a.p) a.assignment c.loop-i.i c.requires h at_item (sym c.touches.ensures ∙ w.if-touches.false))
     ])
 
 pub returns : goal.returns
 unfolding block
 returns c =
-    let last : c.loop-i.i ≡ c.args.b.count = omega (arith, c.loop-i.invariant.within) in
+    let last : c.loop-i.i ≡ c.args.b.now.count = omega (arith, c.loop-i.invariant.within) in
     record {
       condition_value = rw last at c.loop-i.invariant.condition;
       starts_as = rw last at c.loop-i.invariant.starts;

@@ -4,4 +4,4 @@ use Rattle.book.proofs.alternatives.nothing_worked.Goals as goal
 
 pub returns : goal.returns
 unfolding nothing_worked
-returns c = rw c.nothing-none.ensures
+returns c = rw c.nothing.ensures

@@ -7,23 +7,18 @@ use Rattle.book.specs.Begin.{too_many}
 use Rattle.book.specs.States.{steps_of}
 use Rattle.book.proofs.Working.{over-at, over-worked}
 use Rattle.book.proofs.alternatives.too_many.Goals as goal
-use Rattle.book.proofs.alternatives.too_many.Goals.{After-over_room}
 
 pub loop-i-init : goal.loop-i-init
 unfolding any
 loop-i-init c = refl
 
--- whether the item has too many
-over : (c : After-over_room) → c.over_room.result ≡ over-at c.args.b (steps_of c.args.p) c.loop-i.i
-over c = over-worked c.args.b (steps_of c.args.p) c.requires.worked_out c.loop-i.i (omega arith) c.touches.ensures c.over_room.ensures
-
 pub returns-then-over_room : goal.returns-then-over_room
 unfolding too_many
-returns-then-over_room c = sym (any_of _ (over-at c.args.b (steps_of c.args.p)) c.loop-i.i (omega arith) (sym (over c.before) ∙ c.if-over_room.true))
+returns-then-over_room c = sym (any_of _ (over-at c.args.b.now (steps_of c.args.p)) c.loop-i.i (omega arith) (sym (over-worked c.args.b.now (steps_of c.args.p) c.requires.worked_out c.loop-i.i (omega arith) c.touches.ensures c.over_room.ensures) ∙ c.if-over_room.true))
 
 pub loop-i-preserved : goal.loop-i-preserved
-loop-i-preserved c = rw add-one (any-more _ (over-at c.args.b (steps_of c.args.p)) c.loop-i.invariant (sym (over c.before) ∙ c.if-over_room.false))
+loop-i-preserved c = rw add-one (any-more _ (over-at c.args.b.now (steps_of c.args.p)) c.loop-i.invariant (sym (over-worked c.args.b.now (steps_of c.args.p) c.requires.worked_out c.loop-i.i (omega arith) c.touches.ensures c.over_room.ensures) ∙ c.if-over_room.false))
 
 pub returns : goal.returns
 unfolding too_many
-returns c = let last : c.loop-i.i ≡ c.args.b.count = omega (arith, c.loop-i.auto) in sym (rw last at c.loop-i.invariant)
+returns c = let last : c.loop-i.i ≡ c.args.b.now.count = omega (arith, c.loop-i.auto) in sym (rw last at c.loop-i.invariant)

@@ -10,9 +10,9 @@ returns-then-v-ge-LOWEST c =
     let low = rw back at c.if-v-ge-LOWEST.true in
     simp (back, low)
 
-pub returns : goal.returns
+pub returns-else-v-ge-LOWEST : goal.returns-else-v-ge-LOWEST
 unfolding in_range
-returns c =
+returns-else-v-ge-LOWEST c =
     let back = to_z-of_z c.ranges.v in
     let low = rw back at c.if-v-ge-LOWEST.false in
-    simp low
+    simp (back, low)
