@@ -22,14 +22,7 @@ fn gave_up(mut b: Book, at: Site) -> Book
     let computing = computing_on(b.records[d], at.number);
     let records = b.records;
     for i in 0..b.count {
-        b.items[i] = given_up(
-            b.items[i],
-            records,
-            at.number,
-            at.district,
-            at.place,
-            computing,
-        );
+        b.items[i] = given_up(b.items[i], records, at, computing);
     }
     b.records[d] = rested(b.records[d]);
     if computing {

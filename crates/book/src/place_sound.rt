@@ -8,6 +8,7 @@ ghost use Rattle.book.specs.Tables.{TablesOf};
 ghost use Rattle.book.specs.SoundTest.{zero_open, sound_at, sound_open, sound_place};
 
 use crate::Open;
+use crate::decide::{ABORTED, COMPLETED};
 use crate::forget::is_kept;
 use crate::sets::has;
 use crate::tables::{FREE, Tables};
@@ -36,7 +37,11 @@ fn sound_at(o: Open, d: usize) -> bool
     let ready = has(o.ready, d);
     let gave = has(o.gave, d);
     if has(o.touched, d) {
-        if ready { !gave } else { o.decision != 1 }
+        if ready {
+            !gave
+        } else {
+            o.decision != COMPLETED
+        }
     } else {
         !ready && !gave
     }
@@ -72,7 +77,7 @@ fn sound_open(t: Tables, q: usize, o: Open) -> bool
     if !is_within(o.gave, districts) {
         return false;
     }
-    if 2 < o.decision {
+    if ABORTED < o.decision {
         return false;
     }
     if !number_differs(t.open, q, o.number) {

@@ -27,9 +27,9 @@ pub returns-then-not-is_within-3 : goal.returns-then-not-is_within-3
 unfolding sound_open
 returns-then-not-is_within-3 c b o = rw (o.districts, o.places, o.last, sym c.is_within-3.ensures ∙ c.if-not-is_within-3.true, and-false)
 
-pub returns-then-o-gt2 : goal.returns-then-o-gt2
+pub returns-then-o-gt-ABORTED : goal.returns-then-o-gt-ABORTED
 unfolding sound_open
-returns-then-o-gt2 c b o = rw (o.districts, o.places, o.last, lt-leb _ _ c.if-o-gt2.true, and-false)
+returns-then-o-gt-ABORTED c b o = rw (o.districts, o.places, o.last, lt-leb _ _ c.if-o-gt-ABORTED.true, and-false)
 
 pub number_differs-requires : goal.number_differs-requires
 number_differs-requires c = omega (arith, c.requires)
@@ -58,7 +58,7 @@ returns c b o =
       sym c.is_within.ensures ∙ c.if-not-is_within.false,
       sym c.is_within-2.ensures ∙ c.if-not-is_within-2.false,
       sym c.is_within-3.ensures ∙ c.if-not-is_within-3.false,
-      le-leb _ _ c.if-o-gt2.false,
+      le-leb _ _ c.if-o-gt-ABORTED.false,
       sym c.number_differs.ensures ∙ c.if-not-number_differs.false,
       le-leb _ _ c.if-t-o.false,
     )
