@@ -54,14 +54,3 @@ begun-is w b xs {s = s} few en es er eq =
     let alike = rows_alike 0 (λ d x. cond (member s d) (begin_record (b.last.0 + 1)) x) (λ d x. cond (touches_district b xs d) (begin_record (suc b.last.0)) x) b.districts b.records
     (λ d h x. ap₂ (λ (t : Bool) (n : ℕ). cond t (begin_record n) x) (ap (λ (u : ℕ). member u d) es ∙ member-set_of most_districts (touches_district b xs) d (omega arith)) one) in
     λ k. record { last = record { 0 = one k }; districts = (en k).districts; records = (er ∙ alike) k; count = (en k).count; items = (en k).items; «open» = set (en k).«open» (eq k) (record { number = record { 0 = one k }; touched = es k; ready = 0; gave = 0; decision = 0 }) }
-
--- ---- its answer, for a sound book and a good program whose items are in the table
-
--- the tests that are left: 5, 6, 7, 8
-abbrev pub later : ℕ → Book → List Step → List (Bool × Refusal)
-later w b xs = (some_busy b xs, NotIdle) ∷ (not (ltb (free_place w b) w), AllOpen) ∷ (not (ltb b.last.0 last_number), NumbersGiven) ∷ (too_many w b xs, TooManyValues) ∷ []
-
-pub begin-later : (w : ℕ) (b : Book) (bytes : List ℕ) {xs : List Step} {r : Begun} → sound w b ≡ true → bad_program bytes ≡ false → steps bytes ≡ xs → some_step (outside b.count) xs ≡ false
-    → r ≡ begins w (first_of (later w b xs)) b xs → r ≡ begin w b bytes
-unfolding begin begin_answer first_of
-begin-later w b bytes s good e inside is = rw (s, good, e, inside) is

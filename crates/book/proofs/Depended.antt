@@ -1,12 +1,12 @@
 -- The set of the places that items depend on, as the code gathers it.
 use mathlib.Core.Path.{◌≡◌, refl, sym, ap, ap₂, ◌∙◌}
-use mathlib.Core.Bool.{Bool, true, false, ◌||◌, cond}
+use mathlib.Core.Bool.{Bool, true, false, ◌||◌}
 use mathlib.Core.List.{List, [], ◌∷◌}
 use Prim.Native.Nat.{ℕ, ◌+◌, ◌≤◌, ◌<◌}
 use native.Mathlib.Decide.{dec_lt}
 use native.Mathlib.Omega.{arith}
 use lib.Bits.{bit_or, or_lt}
-use lib.Dec.{eqb, ltb}
+use lib.Dec.{eqb}
 use lib.IntN.{ℤ}
 use lib.ListN.{get_or, take}
 use lib.Pow.{pow_pos}
@@ -24,10 +24,7 @@ use Rattle.polyvalues.specs.Polyvalues.{paired, in_use}
 use Rattle.polyvalues.proofs.Laws.Depends.{certain-free}
 use Rattle.book.specs.declared.Book.{Book}
 use Rattle.book.specs.declared.Item.{Item}
-use Rattle.book.specs.declared.tables.Tables.{Tables}
-use Rattle.book.specs.Book.{no_record, item_at, item_depends, some_depends}
-use Rattle.book.specs.SoundTest.{zero_record, sound_record, sound_district}
-use Rattle.book.specs.Tables.{TablesOf}
+use Rattle.book.specs.Book.{item_at, item_depends, some_depends}
 use Rattle.book.proofs.Loops.{Gathered, gathered-more}
 
 -- ---- what depends on no place
@@ -83,11 +80,3 @@ depended-more w b i s {t} e f = gathered-more w _ i s (bit_or s t) e (λ q h. me
 pub all-depended : (w : ℕ) (b : Book) (s : ℕ) {i : ℕ} → i ≡ b.count → DependedBy w b i s → (q : ℕ) → q < w → member s q ≡ some_depends w b q
 unfolding some_depends
 all-depended w b s last e = rw last at e
-
--- ---- the tables of a book
-
--- a row of the districts
-pub district-in : (w : ℕ) (b : Book) (t : Tables) → TablesOf w b t → (d : ℕ)
-    → sound_district w b d ≡ cond (ltb d t.districts) (sound_record w b d (get_or t.records d no_record)) (zero_record (get_or t.records d no_record))
-unfolding sound_district
-district-in w b t o d = rw (o.districts, o.records)

@@ -23,9 +23,3 @@ module _ {A B : Type 0} (f : A → B) (blank : B) where
       let more : most - i ≡ suc (most - suc i) = omega arith in
       ap (λ (l : List B). set l i y) are ∙ ap (set (filled_upto f blank most i xs) i) is
       ∙ ap (λ (n : ℕ). set (map f (take i xs) ++ replicate n blank) i (f (get_or xs i d))) more ∙ fill-next xs i (most - suc i) d h
-
-  pub filled-all : (most : ℕ) (xs : List A) (i : ℕ) {rows : List B} → i ≡ most → length xs ≡ most → rows ≡ filled_upto f blank most i xs → rows ≡ map f xs
-  filled-all most xs i e l are =
-      let none : most - i ≡ 0 = omega arith in
-      let all : i ≡ length xs = omega arith in
-      are ∙ ap (λ (n : ℕ). map f (take i xs) ++ replicate n blank) none ∙ append-nil (map f (take i xs)) ∙ ap (λ (n : ℕ). map f (take n xs)) all ∙ ap (map f) (take-length xs)

@@ -17,7 +17,7 @@ use Rattle.book.specs.Transactions.{done, unsound, not_open, no_district, site_o
 use Rattle.book.proofs.Doing.{accepts}
 use Rattle.book.proofs.Laws.Answers.{test-false, later-accepted, and-accepted, and-refused}
 
-first-more : (xs ys : List (Bool × Refusal)) → first_of (xs ++ ys) ≡ result_and (first_of xs) (first_of ys)
+pub first-more : (xs ys : List (Bool × Refusal)) → first_of (xs ++ ys) ≡ result_and (first_of xs) (first_of ys)
 unfolding first_of
 first-more [] ys = refl
 first-more (x ∷ xs) ys = go x.0 (first-more xs ys)
@@ -41,6 +41,17 @@ module _ {A B : Type 0} (xs : List (Bool × Refusal)) (t : Bool) (r : Refusal) (
   pub accepted-last : {v : A} {u : B} → Ok v ≡ result_and (first_of xs) (Ok x) → t ≡ false → u ≡ y → Ok u ≡ whole
   unfolding first_of
   accepted-last e k same = rw (first-more xs ((t, r) ∷ []), (and-accepted (first_of xs) e).0, k) (ap Ok same)
+
+-- two parts, one after the other
+module _ {A B C : Type 0} (xs ys : List (Bool × Refusal)) (x : A) (y : B) (z : C) where
+  pub refused-first : {r : Refusal} → Err r ≡ result_and (first_of xs) (Ok x) → Err r ≡ result_and (first_of (xs ++ ys)) (Ok z)
+  refused-first e = rw (first-more xs ys, and-refused (first_of xs) x e)
+
+  pub refused-second : {v : A} {r : Refusal} → Ok v ≡ result_and (first_of xs) (Ok x) → Err r ≡ result_and (first_of ys) (Ok y) → Err r ≡ result_and (first_of (xs ++ ys)) (Ok z)
+  refused-second e f = rw (first-more xs ys, (and-accepted (first_of xs) e).0, and-refused (first_of ys) y f)
+
+  pub accepted-both : {v : A} {u : B} {t : C} → Ok v ≡ result_and (first_of xs) (Ok x) → Ok u ≡ result_and (first_of ys) (Ok y) → t ≡ z → Ok t ≡ result_and (first_of (xs ++ ys)) (Ok z)
+  accepted-both e f same = rw (first-more xs ys, (and-accepted (first_of xs) e).0, (and-accepted (first_of ys) f).0) (ap Ok same)
 
 -- ---- the tests of the events on a transaction
 

@@ -6,7 +6,8 @@ use Prim.Native.Nat.{ℕ, zero, suc, ◌+◌, ◌-◌, ◌≤◌, ◌<◌}
 use native.Mathlib.Numerals.{add-one, one-add}
 use native.Mathlib.Omega.{arith}
 use lib.Dec.{ltb}
-use borrow.Author.Tests.{lt-ltb, le-ltb}
+use borrow.Author.Tests.{lt-ltb, le-ltb, ltb-true, ltb-false}
+use Rattle.std.proofs.lemmas.Option.{none-some, same_Some}
 use native.Mathlib.Decide.{dec_lt}
 use lib.ListN.{length, get_or, take, drop}
 use lib.Seq.{take-length}
@@ -19,7 +20,8 @@ use Rattle.std.proofs.lemmas.List.Sums.{prefix_len-le-length}
 use Rattle.std.proofs.lemmas.List.FromFn.{length-enumerate_from, get_or-enumerate_from, length-range_with_len, get_or-range_with_len}
 use Rattle.std.proofs.lemmas.List.{length-take-le, length-drop, get_or-take, get_or-drop}
 use Rattle.conditions.specs.Below.{any, all, first}
-use Rattle.conditions.proofs.Laws.Below.{all_same}
+use Rattle.conditions.proofs.Laws.Below.{all_same, by_cases}
+use Rattle.book.specs.Found.{found}
 
 pub any_rows : {A : Type 0} (p : A → Bool) (z : A) (n : ℕ) (xs : List A) → n ≤ length xs → list_any p (take n xs) ≡ any n (λ i. p (get_or xs i z))
 unfolding any
@@ -36,8 +38,8 @@ all_rows p z (suc n) xs h =
     rw add-one at more ∙ ap (λ (b : Bool). b && p (get_or xs n z)) (all_rows p z n xs (omega arith))
 
 -- `&xs[n..]`
-pub to_the_end : {A : Type 0} (n : ℕ) (xs : List A) → take (length xs - n) (drop n xs) ≡ drop n xs
-to_the_end n xs = ap (λ (k : ℕ). take k (drop n xs)) (sym (length-drop n xs)) ∙ take-length (drop n xs)
+pub to_the_end : {A : Type 0} (n m : ℕ) (xs : List A) → length xs ≡ m → take (m - n) (drop n xs) ≡ drop n xs
+to_the_end n m xs long = ap (λ (k : ℕ). take (k - n) (drop n xs)) (sym long) ∙ ap (λ (k : ℕ). take k (drop n xs)) (sym (length-drop n xs)) ∙ take-length (drop n xs)
 
 -- the rows from n on
 pub all_past : {A : Type 0} (p : A → Bool) (z : A) (n : ℕ) (xs : List A) → list_all p (drop n xs) ≡ all (length xs - n) (λ i. p (get_or xs (n + i) z))
@@ -66,6 +68,23 @@ found_row p z xs {o} {k} {r} long e f =
         go : Dec (n < length xs) → unwrap_or (cond (ltb n (length xs)) (Some n) None) k ≡ n
         go (yes l) = rw (lt-ltb n (length xs) l)
         go (no l) = let past : length xs ≤ n = omega arith in rw (le-ltb n (length xs) past) (omega arith)
+
+-- that number, or none
+pub found_first : {A : Type 0} (p : A → Bool) (z : A) (xs : List A) {k : ℕ} → length xs ≡ k
+    → cond (ltb (position_or_len p xs) (length xs)) (Some (position_or_len p xs)) None ≡ found k (first k (λ i. p (get_or xs i z)))
+unfolding found
+found_first p z xs {k} long = rw (first_row p z xs, long)
+
+pub found_some : (w n : ℕ) {q : ℕ} → found w n ≡ Some q → (n ≡ q) × (n < w)
+unfolding found
+found_some w n {q} e =
+    by_cases (ltb n w)
+    (λ t. (same_Some n q (rw t at e), ltb-true n w t))
+    (λ t. absurd (none-some q (rw t at e)))
+
+pub found_none : (w n : ℕ) → found w n ≡ None → w ≤ n
+unfolding found
+found_none w n e = by_cases (ltb n w) (λ t. absurd (none-some n (sym (rw t at e)))) (λ t. ltb-false n w t)
 
 -- ---- rows with their numbers beside them
 
@@ -106,3 +125,9 @@ all_range p n =
     let long = length-range_with_len 0 n in
     let them : take n (range_with_len 0 n) ≡ range_with_len 0 n = ap (λ (k : ℕ). take k (range_with_len 0 n)) (sym long) ∙ take-length (range_with_len 0 n) in
     ap (list_all p) (sym them) ∙ all_rows p 0 n (range_with_len 0 n) (omega (arith, long)) ∙ all_same n _ _ (λ i l. ap p (get_or-range_with_len 0 n i 0 l ∙ zero-add i))
+
+pub any_range : (p : ℕ → Bool) (n : ℕ) → list_any p (range_with_len 0 n) ≡ any n p
+any_range p n =
+    let long = length-range_with_len 0 n in
+    let them : take n (range_with_len 0 n) ≡ range_with_len 0 n = ap (λ (k : ℕ). take k (range_with_len 0 n)) (sym long) ∙ take-length (range_with_len 0 n) in
+    ap (list_any p) (sym them) ∙ any_rows p 0 n (range_with_len 0 n) (omega (arith, long)) ∙ any_same n _ _ (λ i l. ap p (get_or-range_with_len 0 n i 0 l ∙ zero-add i))

@@ -9,7 +9,9 @@ use borrow.Author.Tests.{lt-ltb, le-ltb}
 use Rattle.conditions.specs.declared.place.TransactionNumber.{TransactionNumber}
 use Rattle.conditions.specs.Places.{places as width}
 use Rattle.conditions.specs.Text.{number_at}
-use Rattle.conditions.specs.Written.{no_room, room, answer, written}
+use Rattle.std.specs.Result.{result_or}
+use Rattle.conditions.specs.declared.text.NoRoom.{NoRoom}
+use Rattle.conditions.specs.Written.{room, answer, written}
 use Rattle.conditions.proofs.Laws.Below.{by_cases}
 use Rattle.polyvalues.specs.declared.polyvalue.Polyvalue.{Polyvalue}
 use Rattle.polyvalues.specs.Text.{line_text}
@@ -34,19 +36,11 @@ line-is p places e =
     ap (λ (n : ℕ → ℕ). line_text width n (in_use p)) (ap number_at e ∙ tags)
 
 -- it was written, or there was too little room
-pub was-written : (l t : List ℕ) {end : ℕ} → Ok end ≡ answer l 0 t → Ok end ≡ line_shown l t
+pub was-written : (l t : List ℕ) {r : Result ℕ NoRoom} → r ≡ answer l 0 t → result_or r (Err ShortBuffer) ≡ line_shown l t
 unfolding answer
-was-written l t {end} e =
-    by_cases (room l 0 t)
-    (λ k. let to : Ok end ≡ Ok (0 + length t) = rw k at e in let same : end ≡ 0 + length t = cc in let plain : end ≡ length t = omega arith in rw k (ap Ok plain))
-    (λ k. let none : Ok end ≡ Err no_room = rw k at e in let z : ◌≡◌ {A = ℕ} 0 1 = cc in absurd (omega arith))
-
-pub was-short : (l t : List ℕ) → Err no_room ≡ answer l 0 t → Err ShortBuffer ≡ line_shown l t
-unfolding answer
-was-short l t e =
-    by_cases (room l 0 t)
-    (λ k. let some : Err no_room ≡ Ok _ = rw k at e in let z : ◌≡◌ {A = ℕ} 0 1 = cc in absurd (omega arith))
-    (λ k. rw k)
+was-written l t e =
+    let plain : 0 + length t ≡ length t = omega arith in
+    ap (λ (r : Result ℕ NoRoom). result_or r (Err ShortBuffer)) e ∙ by_cases (room l 0 t) (λ k. rw k (ap Ok plain)) (λ k. rw k)
 
 -- ---- the answers
 

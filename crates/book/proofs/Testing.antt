@@ -20,14 +20,12 @@ use Rattle.polyvalues.specs.Operations.{same_rows, same, together}
 use Rattle.polyvalues.proofs.Laws.Packed.{sound-well_formed}
 use Rattle.polyvalues.proofs.Laws.Paired.{rows_long}
 use Rattle.polyvalues.proofs.Known.{Held, all-rows}
-use Rattle.conditions.specs.Below.{all, first}
-use Rattle.conditions.specs.Places.{places}
+use Rattle.conditions.specs.Below.{all}
 use Rattle.conditions.proofs.Laws.Below.{and_left, and_right, by_cases, all_same, all-plus}
 use Rattle.book.specs.declared.Record.{Record}
 use Rattle.book.specs.declared.Item.{Item}
-use Rattle.book.specs.declared.Open.{Open}
 use Rattle.book.specs.declared.Book.{Book}
-use Rattle.book.specs.Book.{most_districts, most_items, good_counts, last_number, no_record, no_item, no_open, void_item, record_on, item_at, item_on, named, place_of, item_depends}
+use Rattle.book.specs.Book.{most_districts, most_items, good_counts, last_number, no_record, no_item, void_item, record_on, item_at, item_on, place_of, item_depends}
 use Rattle.book.specs.SoundTest.{implies, same_condition, same_polyvalue, same_item, sound_pending, sound_row, sound_item}
 use Rattle.book.proofs.Laws.Same.{same-paired, same-polyvalue}
 use Rattle.book.proofs.Laws.Room.{together-self}
@@ -59,12 +57,6 @@ nothing-same {q} h =
     ap (λ (b : Bool). eqb q.count 0 && b)
     (blank-same (rows_of q) ∙ ap (λ (n : ℕ). same (rows_of q) (replicate n no_pair)) (rows_long all)
     ∙ same-paired q.values (packed []).values q.conditions (packed []).conditions (all.values ∙ sym all.conditions) refl)
-
--- ---- the place of a transaction
-
-pub place_in : (b : Book) (n : ℕ) {os : List Open} {q : ℕ} → b.«open» ≡ os → q ≡ first places (λ q. named n (get_or os q no_open)) → q ≡ place_of places b n
-unfolding place_of
-place_in b n e f = f ∙ ap (λ (l : List Open). first places (λ q. named n (get_or l q no_open))) (sym e)
 
 -- ---- what the sets say of a district: touched t, ready r, given up g, completed x
 

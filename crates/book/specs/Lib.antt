@@ -15,6 +15,7 @@ pub mod Begin
 pub mod States
 pub mod Alternatives
 pub mod Tables
+pub mod Found
 pub mod Ready
 pub mod GiveUp
 pub mod Decide

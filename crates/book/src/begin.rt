@@ -1,13 +1,14 @@
 // Begin: a program takes the next number, and its results are pending.
-ghost use Rattle.std.specs.Prelude.{◌≡◌, true, false, cond, List, ℕ, ◌<◌, ◌≤◌};
+ghost use Rattle.std.specs.Prelude.{◌≡◌, true, false, cond, ◌++◌, ◌<◌, ◌≤◌};
+ghost use Rattle.std.specs.Result.{result_and};
 ghost use Rattle.conditions.specs.Places.{places};
-ghost use Rattle.conditions.specs.Sets.{set_of};
-ghost use Rattle.book.specs.Book.{most_districts, most_items, last_number, free_place};
+ghost use Rattle.book.specs.Answers.{first_of};
+ghost use Rattle.book.specs.Book.{most_districts, most_items, last_number};
 ghost use Rattle.book.specs.Items.{becomes};
-ghost use Rattle.book.specs.States.{steps_of};
+ghost use Rattle.book.specs.States.{steps_of, program_of};
 ghost use Rattle.book.specs.Programs.{steps, some_step};
 ghost use Rattle.book.specs.Alternatives.{WorkedOut};
-ghost use Rattle.book.specs.Begin.{bad_program, outside, some_busy, too_many, touches_district, begun, begins, begin};
+ghost use Rattle.book.specs.Begin.{outside, some_busy, too_many, program_tests, room_tests, room_of, begun, begins, begin};
 ghost use Rattle.book.specs.SoundTest.{sound};
 
 use crate::alternatives::{Worked, too_many, worked_out};
@@ -26,45 +27,39 @@ fn begun_item(x: Item, is_touched: bool, new: Polyvalue) -> Item
     ensures { result ≡ cond is_touched (becomes x x.held new) x }
 {
     if is_touched {
-        let mut y = x;
-        y.pending = new;
-        return y;
+        Item { pending: new, ..x }
+    } else {
+        x
     }
-    x
 }
 
-// The next number is given to the program, at the place; the set has the districts that it touches.
-fn begun(mut b: Book, p: Program, w: Worked, q: usize, set: u8) -> Book
+// What a program takes as it begins: the lowest free place, and the districts that it touches.
+#[derive(Clone, Copy)]
+pub struct Room {
+    pub place: usize,
+    pub districts: u8,
+}
+
+// The next number is given to the program, at the place.
+fn begun(mut b: Book, p: Program, w: Worked, room: Room) -> Book
     requires districts_le_most_districts { (b.districts ≤ most_districts) × (b.count ≤ most_items) × (b.last.0 < last_number) }
-    requires q_value { (q ≡ free_place places b) × (q < places) × (set ≡ set_of most_districts (touches_district b (steps_of p))) }
+    requires room_value { (room ≡ room_of places b (steps_of p)) × (room.place < places) }
     requires worked_out { WorkedOut places b (steps_of p) w }
     ensures { result ≡ begun places b (steps_of p) }
 {
-    let before = b.last.0;
-    let next = before + 1;
-    let number = TransactionNumber(next);
-    let idle = b.records;
-    let records = begun_records(idle, b.districts, set, number);
-    let count = b.count;
-    let mut i: usize = 0;
-    while i < count {
-        let x = b.items[i];
-        let new = w.new[i];
-        let is_touched = p.touches(i);
-        let y = begun_item(x, is_touched, new);
-        b.items[i] = y;
-        i += 1;
+    let number = TransactionNumber(b.last.0 + 1);
+    for i in 0..b.count {
+        b.items[i] = begun_item(b.items[i], p.touches(i), w.new[i]);
     }
-    let new = Open {
+    b.last = number;
+    b.records = begun_records(b.records, b.districts, room.districts, number);
+    b.open[room.place] = Open {
         number,
-        touched: set,
+        touched: room.districts,
         ready: 0,
         gave: 0,
         decision: 0,
     };
-    b.last = number;
-    b.records = records;
-    b.open[q] = new;
     b
 }
 
@@ -80,13 +75,12 @@ fn refused(b: Book, refusal: Refusal) -> Begun
     }
 }
 
-// Begin of a program that has a number and a place: only its values may be too many. The touched
+// Begin of a program that has room and a number: only its values may be too many. The touched
 // districts were on no transaction and the others stay on theirs, so there is nothing to forget.
-fn begin_at(b: Book, p: Program, q: usize, set: u8) -> Begun
+fn begin_at(b: Book, p: Program, room: Room) -> Begun
     requires b_value { (sound places b ≡ true) × (some_busy b (steps_of p) ≡ false) }
     requires p_value { some_step (outside b.count) (steps_of p) ≡ false }
-    requires q_value { (q ≡ free_place places b) × (q < places) × (b.last.0 < last_number) }
-    requires set_value { set ≡ set_of most_districts (touches_district b (steps_of p)) }
+    requires room_value { (room ≡ room_of places b (steps_of p)) × (room.place < places) × (b.last.0 < last_number) }
     ensures { result ≡ begins places (cond (too_many places b (steps_of p)) (Err Refusal.TooManyValues) (Ok tt)) b (steps_of p) }
 {
     let Some(w) = worked_out(b, p) else {
@@ -96,7 +90,7 @@ fn begin_at(b: Book, p: Program, q: usize, set: u8) -> Begun
         return refused(b, Refusal::TooManyValues);
     }
     let grant = w.granted();
-    let after = begun(b, p, w, q, set);
+    let after = begun(b, p, w, room);
     let number = after.last;
     Begun {
         answer: Ok(()),
@@ -106,52 +100,65 @@ fn begin_at(b: Book, p: Program, q: usize, set: u8) -> Begun
     }
 }
 
-// Begin of a program that is good and whose items are in the table.
-fn begin_program(b: Book, p: Program) -> Begun
-    requires b_value { sound places b ≡ true }
-    requires p_value { some_step (outside b.count) (steps_of p) ≡ false }
-    ensures { (bytes : List ℕ) → bad_program bytes ≡ false → steps bytes ≡ steps_of p → result ≡ begin places b bytes }
-{
-    let count = b.count;
-    let mut set: u8 = 0;
-    let mut i: usize = 0;
-    while i < count {
-        let district = b.items[i].district;
-        let is_touched = p.touches(i);
-        set = with_district(set, is_touched, district);
-        i += 1;
-    }
-    let records = b.records;
-    let is_busy = some_busy(records, b.districts, set);
-    let open = b.open;
-    let q = free_place(open);
-    if is_busy {
-        return refused(b, Refusal::NotIdle);
-    }
-    if PLACES <= q {
-        return refused(b, Refusal::AllOpen);
-    }
-    if NUMBERS <= b.last.0 {
-        return refused(b, Refusal::NumbersGiven);
-    }
-    begin_at(b, p, q, set)
-}
-
 impl Book {
+    // The program of the bytes: 15, 3, 2.
+    fn program(&self, bytes: &[u8]) -> Result<Program, Refusal>
+        ensures { result ≡ result_and (first_of (program_tests places self.now bytes.now)) (Ok (program_of (steps bytes.now))) }
+    {
+        if !self.is_sound() {
+            return Err(Refusal::Unsound);
+        }
+        if bad_program(bytes) {
+            return Err(Refusal::BadProgram);
+        }
+        let p = read(bytes);
+        if p.is_outside(self.count) {
+            return Err(Refusal::NoItem);
+        }
+        Ok(p)
+    }
+
+    // What it takes: 5, 6, 7.
+    fn room(&self, p: Program) -> Result<Room, Refusal>
+        requires { sound places self.now ≡ true }
+        ensures { result ≡ result_and (first_of (room_tests places self.now (steps_of p))) (Ok (room_of places self.now (steps_of p))) }
+    {
+        let mut set = 0;
+        for (i, x) in self.items[..self.count].iter().enumerate() {
+            set = with_district(set, p.touches(i), x.district);
+        }
+        if some_busy(self.records, self.districts, set) {
+            return Err(Refusal::NotIdle);
+        }
+        let q = free_place(self.open);
+        if PLACES <= q {
+            return Err(Refusal::AllOpen);
+        }
+        if NUMBERS <= self.last.0 {
+            return Err(Refusal::NumbersGiven);
+        }
+        Ok(Room {
+            place: q,
+            districts: set,
+        })
+    }
+
+    // Both, one after the other: all tests but 8.
+    fn may_begin(&self, bytes: &[u8]) -> Result<(Program, Room), Refusal>
+        ensures { result ≡ result_and (first_of (program_tests places self.now bytes.now ++ room_tests places self.now (steps bytes.now))) (Ok (program_of (steps bytes.now), room_of places self.now (steps bytes.now))) }
+    {
+        let p = self.program(bytes)?;
+        let room = self.room(p)?;
+        Ok((p, room))
+    }
+
     // The call: the program's bytes.
     pub fn begin(self, bytes: &[u8]) -> Begun
         ensures { result ≡ begin places self bytes.now }
     {
-        if !self.is_sound() {
-            return refused(self, Refusal::Unsound);
+        match self.may_begin(bytes) {
+            Ok((p, room)) => begin_at(self, p, room),
+            Err(refusal) => refused(self, refusal),
         }
-        if bad_program(bytes) {
-            return refused(self, Refusal::BadProgram);
-        }
-        let p = read(bytes);
-        if p.is_outside(self.count) {
-            return refused(self, Refusal::NoItem);
-        }
-        begin_program(self, p)
     }
 }

@@ -23,10 +23,7 @@ pub(crate) const ABORTED: u8 = 2;
 fn is_awaited(o: Open, d: usize) -> bool
     ensures { result ≡ (member o.touched d && not (member o.ready d)) }
 {
-    if !has(o.touched, d) {
-        return false;
-    }
-    !has(o.ready, d)
+    has(o.touched, d) && !has(o.ready, d)
 }
 
 // Whether a district is.
@@ -34,14 +31,7 @@ fn some_awaited(o: Open, districts: usize) -> bool
     requires { districts ≤ most_districts }
     ensures { result ≡ any districts (λ d. member o.touched d && not (member o.ready d)) }
 {
-    let mut d: usize = 0;
-    while d < districts {
-        if is_awaited(o, d) {
-            return true;
-        }
-        d += 1;
-    }
-    false
+    (0..districts).any(|d| is_awaited(o, d))
 }
 
 // The transaction at the place has the decision, and is closed where no district is on it and no item
@@ -50,24 +40,18 @@ fn decided(mut b: Book, q: usize, decision: u8) -> Book
     requires { (sound places b ≡ true) × (q < places) × (1 ≤ decision) }
     ensures { (n : ℕ) → q ≡ place_of places b n → result ≡ forget places (decide places b n decision) }
 {
-    let mut o = b.open[q];
-    o.decision = decision;
-    b.open[q] = o;
-    let records = b.records;
-    if some_on(records, b.districts, o.number.0) {
+    let number = b.open[q].number;
+    b.open[q].decision = decision;
+    if some_on(b.records, b.districts, number.0) {
         return b;
     }
-    let count = b.count;
-    let mut i: usize = 0;
-    while i < count {
-        let x = b.items[i];
-        if item_depends(x, Place(q)) {
-            return b;
-        }
-        i += 1;
+    if b.items[..b.count]
+        .iter()
+        .any(|x| item_depends(*x, Place(q)))
+    {
+        return b;
     }
-    let closed = FREE;
-    b.open[q] = closed;
+    b.open[q] = FREE;
     b
 }
 
@@ -99,10 +83,13 @@ impl Book {
         ensures { result ≡ complete places self n.0 }
     {
         match self.may_complete(n) {
-            Ok(q) => Done {
-                answer: Ok(()),
-                book: decided(self, q, COMPLETED),
-            },
+            Ok(q) => {
+                let after = decided(self, q, COMPLETED);
+                Done {
+                    answer: Ok(()),
+                    book: after,
+                }
+            }
             Err(refusal) => Done {
                 answer: Err(refusal),
                 book: self,
@@ -115,10 +102,13 @@ impl Book {
         ensures { result ≡ abort places self n.0 }
     {
         match self.may_abort(n) {
-            Ok(q) => Done {
-                answer: Ok(()),
-                book: decided(self, q, ABORTED),
-            },
+            Ok(q) => {
+                let after = decided(self, q, ABORTED);
+                Done {
+                    answer: Ok(()),
+                    book: after,
+                }
+            }
             Err(refusal) => Done {
                 answer: Err(refusal),
                 book: self,

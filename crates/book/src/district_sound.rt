@@ -9,7 +9,7 @@ use crate::records::{IDLE, RESTING, WAITING};
 use crate::sets::has;
 use crate::tables::place_of;
 use crate::{Book, Open, Record};
-use conditions::{PLACES, TransactionNumber};
+use conditions::TransactionNumber;
 
 // Whether a record holds zeros.
 fn zero_record(x: Record) -> bool
@@ -43,8 +43,10 @@ fn sound_record(b: &Book, d: usize, x: Record) -> bool
     if x.phase == IDLE {
         return x.transaction == TransactionNumber(0);
     }
-    let q = place_of(b.open, x.transaction);
-    q < PLACES && sound_busy(d, b.open[q], x.phase == WAITING)
+    match place_of(b.open, x.transaction) {
+        Some(q) => sound_busy(d, b.open[q], x.phase == WAITING),
+        None => false,
+    }
 }
 
 // Whether a row of the districts is sound.

@@ -15,42 +15,30 @@ use conditions::PLACES;
 // Whether the transaction at a place stays: it is not decided, or has a district on it or a polyvalue
 // that depends on it.
 pub(crate) fn is_kept(t: Tables, q: usize, o: Open) -> bool
-    requires { (t.districts ≤ most_districts) × (q < place_count) }
+    requires { q < place_count }
     ensures { (b : Book) → TablesOf place_count b t → result ≡ kept place_count b q o }
 {
     if o.decision == 0 {
         return true;
     }
-    let records = t.records;
-    if some_on(records, t.districts, o.number.0) {
-        return true;
-    }
-    has(t.depended, q)
+    some_on(t.records, t.districts, o.number.0) || has(t.depended, q)
 }
 
 // What a place holds afterwards: a transaction that does not stay is closed.
 fn remembered(t: Tables, q: usize, o: Open) -> Open
-    requires { (t.districts ≤ most_districts) × (q < place_count) }
+    requires { q < place_count }
     ensures { (b : Book) → TablesOf place_count b t → result ≡ remembered place_count b q o }
 {
-    if is_kept(t, q, o) {
-        return o;
-    }
-    FREE
+    if is_kept(t, q, o) { o } else { FREE }
 }
 
 // Each place so.
 fn remembered_places(t: Tables) -> [Open; PLACES]
-    requires { t.districts ≤ most_districts }
     ensures { (b : Book) → TablesOf place_count b t → result ≡ rows (remembered place_count b) place_count t.«open» }
 {
     let mut places = t.open;
-    let mut q: usize = 0;
-    while q < PLACES {
-        let o = places[q];
-        let kept = remembered(t, q, o);
-        places[q] = kept;
-        q += 1;
+    for (q, o) in places.iter_mut().enumerate() {
+        *o = remembered(t, q, *o);
     }
     places
 }
@@ -60,25 +48,16 @@ pub(crate) fn forget(mut b: Book) -> Book
     requires { (b.districts ≤ most_districts) × (b.count ≤ most_items) }
     ensures { result ≡ forget place_count b }
 {
-    let count = b.count;
-    let mut depended: u8 = 0;
-    let mut i: usize = 0;
-    while i < count {
-        let x = b.items[i];
-        depended = depended | places_of(x);
-        i += 1;
+    let mut depended = 0;
+    for x in &b.items[..b.count] {
+        depended |= places_of(*x);
     }
-    let last = b.last;
-    let districts = b.districts;
-    let records = b.records;
-    let open = b.open;
-    let places = remembered_places(Tables {
-        last,
-        districts,
-        records,
-        open,
+    b.open = remembered_places(Tables {
+        last: b.last,
+        districts: b.districts,
+        records: b.records,
+        open: b.open,
         depended,
     });
-    b.open = places;
     b
 }

@@ -22,14 +22,7 @@ fn gave_up(mut b: Book, at: Site) -> Book
     let computing = computing_on(b.records[d], at.number);
     let records = b.records;
     for i in 0..b.count {
-        b.items[i] = given_up(
-            b.items[i],
-            records,
-            at.number,
-            at.district,
-            at.place,
-            computing,
-        );
+        b.items[i] = given_up(b.items[i], records, at, computing);
     }
     b.records[d] = rested(b.records[d]);
     if computing {
@@ -55,10 +48,13 @@ impl Book {
         ensures { result ≡ give_up places self n.0 d }
     {
         match self.may_give_up(n, d) {
-            Ok(at) => Done {
-                answer: Ok(()),
-                book: forget(gave_up(self, at)),
-            },
+            Ok(at) => {
+                let after = gave_up(self, at);
+                Done {
+                    answer: Ok(()),
+                    book: forget(after),
+                }
+            }
             Err(refusal) => Done {
                 answer: Err(refusal),
                 book: self,

@@ -21,14 +21,7 @@ fn heard(mut b: Book, at: Site) -> Book
     let completed = b.open[at.place.0].decision == COMPLETED;
     let records = b.records;
     for i in 0..b.count {
-        b.items[i] = heard_item(
-            b.items[i],
-            records,
-            at.number,
-            at.district,
-            at.place,
-            completed,
-        );
+        b.items[i] = heard_item(b.items[i], records, at, completed);
     }
     let d = at.district as usize;
     b.records[d] = heard_record(b.records[d], at.number);
@@ -53,10 +46,13 @@ impl Book {
         ensures { result ≡ hear places self n.0 d }
     {
         match self.may_hear(n, d) {
-            Ok(at) => Done {
-                answer: Ok(()),
-                book: forget(heard(self, at)),
-            },
+            Ok(at) => {
+                let after = heard(self, at);
+                Done {
+                    answer: Ok(()),
+                    book: forget(after),
+                }
+            }
             Err(refusal) => Done {
                 answer: Err(refusal),
                 book: self,

@@ -18,14 +18,7 @@ use polyvalues::{PAIRS, Polyvalue};
 fn same_polyvalue(q: Polyvalue, other: Polyvalue) -> bool
     ensures { result ≡ same_polyvalue q other }
 {
-    if q.count != other.count {
-        return false;
-    }
-    let mut rows = q;
-    rows.count = PAIRS;
-    let mut others = other;
-    others.count = PAIRS;
-    rows.same(others)
+    q == other
 }
 
 // Whether an item holds zeros.
@@ -64,8 +57,10 @@ fn sound_taken(b: &Book, n: u16, x: Item, its: u8) -> bool
     if !x.pending.is_sound() {
         return false;
     }
-    let q = place_of(b.open, TransactionNumber(n));
-    !has(its, q) && x.held.together(x.pending) <= PAIRS
+    if place_of(b.open, TransactionNumber(n)).is_some_and(|q| has(its, q)) {
+        return false;
+    }
+    x.held.together(x.pending) <= PAIRS
 }
 
 // Whether an item below the count, which depends on its places, is sound.

@@ -8,16 +8,17 @@ ghost use Rattle.book.specs.Items.{concerned, install, drop, split, reduce_item}
 ghost use Rattle.book.specs.GiveUp.{give_up_item};
 ghost use Rattle.book.specs.Hear.{hear_item};
 
+use crate::site::Site;
 use crate::tables::{DISTRICTS, district_on};
 use crate::{Item, Record};
-use conditions::{Place, TransactionNumber};
+use conditions::Place;
 use polyvalues::Polyvalue;
 
 // Whether the item is in the district and on the transaction.
-fn is_concerned(x: Item, records: [Record; DISTRICTS], n: TransactionNumber, d: u8) -> bool
-    ensures { (b : Book) → b.records ≡ records → result ≡ concerned b n.0 d x }
+fn is_concerned(x: Item, records: [Record; DISTRICTS], at: Site) -> bool
+    ensures { (b : Book) → b.records ≡ records → result ≡ concerned b at.number.0 at.district x }
 {
-    x.district == d && district_on(records, x.district) == n.0
+    x.district == at.district && district_on(records, x.district) == at.number.0
 }
 
 // Pending is held.
@@ -65,52 +66,36 @@ fn reduced(x: Item, q: Place, outcome: bool) -> Item
 }
 
 // Where the item is concerned, pending is held or is dropped.
-fn settled(
-    x: Item,
-    records: [Record; DISTRICTS],
-    n: TransactionNumber,
-    d: u8,
-    completed: bool,
-) -> Item
-    ensures { (b : Book) → b.records ≡ records → result ≡ cond (concerned b n.0 d x) (cond completed (install x) (drop x)) x }
+fn settled(x: Item, records: [Record; DISTRICTS], at: Site, completed: bool) -> Item
+    ensures { (b : Book) → b.records ≡ records → result ≡ cond (concerned b at.number.0 at.district x) (cond completed (install x) (drop x)) x }
 {
-    if !is_concerned(x, records, n, d) {
+    if !is_concerned(x, records, at) {
         return x;
     }
     if completed { installed(x) } else { dropped(x) }
 }
 
 // The item when the district hears the outcome of the transaction at the place.
-pub(crate) fn heard(
-    x: Item,
-    records: [Record; DISTRICTS],
-    n: TransactionNumber,
-    d: u8,
-    q: Place,
-    completed: bool,
-) -> Item
-    ensures { (b : Book) → b.records ≡ records → result ≡ hear_item places b n.0 d q.0 completed x }
+pub(crate) fn heard(x: Item, records: [Record; DISTRICTS], at: Site, completed: bool) -> Item
+    ensures { (b : Book) → b.records ≡ records → result ≡ hear_item places b at.number.0 at.district at.place.0 completed x }
 {
-    if x.district != d {
+    if x.district != at.district {
         return x;
     }
-    reduced(settled(x, records, n, d, completed), q, completed)
+    reduced(settled(x, records, at, completed), at.place, completed)
 }
 
 // The item when the district gives up on it, from computing or from waiting.
-pub(crate) fn given_up(
-    x: Item,
-    records: [Record; DISTRICTS],
-    n: TransactionNumber,
-    d: u8,
-    q: Place,
-    computing: bool,
-) -> Item
+pub(crate) fn given_up(x: Item, records: [Record; DISTRICTS], at: Site, computing: bool) -> Item
     requires { together (in_use x.pending) (in_use x.held) ≤ most_pairs }
-    ensures { (b : Book) → b.records ≡ records → result ≡ give_up_item places b n.0 d q.0 computing x }
+    ensures { (b : Book) → b.records ≡ records → result ≡ give_up_item places b at.number.0 at.district at.place.0 computing x }
 {
-    if !is_concerned(x, records, n, d) {
+    if !is_concerned(x, records, at) {
         return x;
     }
-    if computing { dropped(x) } else { split(x, q) }
+    if computing {
+        dropped(x)
+    } else {
+        split(x, at.place)
+    }
 }

@@ -37,6 +37,7 @@ pub use tables::{DISTRICTS, ITEMS};
 // A district's record: idle (0), computing (1) or waiting (2), and on which transaction.
 #[derive(Clone, Copy, Debug, PartialEq, Eq)]
 pub struct Record {
+    // kept: a number: a book with phase 3 is unsound and answers 15 (sound_record; refusals, "phase 3").
     pub phase: u8,
     pub transaction: TransactionNumber,
 }
@@ -57,6 +58,7 @@ pub struct Open {
     pub touched: u8,
     pub ready: u8,
     pub gave: u8,
+    // kept: a number: a book with decision 3 is unsound and answers 15 (sound_open; refusals, "decision 3").
     pub decision: u8,
 }
 
@@ -74,6 +76,7 @@ pub struct Book {
 // A step of a program: 4 bytes.
 #[derive(Clone, Copy, Debug, PartialEq, Eq)]
 pub struct Step {
+    // kept: a number: any byte may be handed in, and an unknown kind answers 3 (bad_step).
     pub kind: u8,
     pub item: u8,
     pub operand: i16,
@@ -115,6 +118,7 @@ pub type Answer = Result<(), Refusal>;
 pub struct Begun {
     pub answer: Answer,
     pub number: TransactionNumber,
+    // kept: a number: a refused begin gives grant 0 (begins), which no enum of the three grants names.
     pub grant: u8,
     pub book: Book,
 }

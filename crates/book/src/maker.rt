@@ -13,6 +13,7 @@ use conditions::{PLACES, TransactionNumber};
 use polyvalues::{Polyvalue, in_range};
 
 // The first `count` items count.
+// kept: fixed memory is a rule of the project, and `opened_rows` speaks of a count past the rows.
 #[derive(Clone, Copy)]
 pub struct Openings {
     pub count: usize,

@@ -8,6 +8,7 @@ ghost use Rattle.book.specs.Tables.{TablesOf};
 ghost use Rattle.book.specs.SoundTest.{zero_open, sound_at, sound_open, sound_place};
 
 use crate::Open;
+use crate::decide::{ABORTED, COMPLETED};
 use crate::forget::is_kept;
 use crate::sets::has;
 use crate::tables::{FREE, Tables};
@@ -36,7 +37,11 @@ fn sound_at(o: Open, d: usize) -> bool
     let ready = has(o.ready, d);
     let gave = has(o.gave, d);
     if has(o.touched, d) {
-        if ready { !gave } else { o.decision != 1 }
+        if ready {
+            !gave
+        } else {
+            o.decision != COMPLETED
+        }
     } else {
         !ready && !gave
     }
@@ -59,7 +64,7 @@ fn number_differs(places: [Open; PLACES], q: usize, n: TransactionNumber) -> boo
 
 // Whether the open transaction at a place is sound.
 fn sound_open(t: Tables, q: usize, o: Open) -> bool
-    requires { (t.districts ≤ most_districts) × (q < place_count) }
+    requires { q < place_count }
     ensures { (b : Book) → TablesOf place_count b t → result ≡ sound_open place_count b q o }
 {
     let districts = t.districts;
@@ -72,7 +77,7 @@ fn sound_open(t: Tables, q: usize, o: Open) -> bool
     if !is_within(o.gave, districts) {
         return false;
     }
-    if 2 < o.decision {
+    if ABORTED < o.decision {
         return false;
     }
     if !number_differs(t.open, q, o.number) {
@@ -89,7 +94,7 @@ fn sound_open(t: Tables, q: usize, o: Open) -> bool
 
 // Whether a place is sound.
 fn sound_place(t: Tables, q: usize) -> bool
-    requires { (t.districts ≤ most_districts) × (q < place_count) }
+    requires { q < place_count }
     ensures { (b : Book) → TablesOf place_count b t → result ≡ sound_place place_count b q }
 {
     let o = t.open[q];
@@ -101,7 +106,6 @@ fn sound_place(t: Tables, q: usize) -> bool
 
 // Whether each of them is.
 pub(crate) fn sound_places(t: Tables) -> bool
-    requires { t.districts ≤ most_districts }
     ensures { (b : Book) → TablesOf place_count b t → result ≡ all place_count (sound_place place_count b) }
 {
     for q in 0..PLACES {

@@ -13,6 +13,7 @@ use polyvalues::of_bytes;
 const STEPS: usize = 8;
 
 // The first `count` steps count; the rows past them are zero.
+// kept: fixed memory is a rule of the project, so the count stands beside the rows.
 #[derive(Clone, Copy)]
 pub struct Program {
     count: usize,

@@ -40,10 +40,13 @@ impl Book {
         ensures { result ≡ ready places self n.0 d }
     {
         match self.may_ready(n, d) {
-            Ok(at) => Done {
-                answer: Ok(()),
-                book: readied(self, at),
-            },
+            Ok(at) => {
+                let after = readied(self, at);
+                Done {
+                    answer: Ok(()),
+                    book: after,
+                }
+            }
             Err(refusal) => Done {
                 answer: Err(refusal),
                 book: self,

@@ -5,23 +5,14 @@ ghost use Rattle.conditions.specs.Written.{written};
 ghost use Rattle.book.specs.Show.{line_of, line_shown, shown, show};
 
 use crate::{Book, Open, Refusal};
-use conditions::{NoRoom, PLACES, TransactionNumber};
+use conditions::{PLACES, TransactionNumber};
 use polyvalues::Polyvalue;
 
 // The number of the transaction at each place.
 fn numbers_at(places: [Open; PLACES]) -> [TransactionNumber; PLACES]
     ensures { result ≡ map (λ o. o.number) places }
 {
-    let none = TransactionNumber(0);
-    let mut numbers = [none; PLACES];
-    let mut q: usize = 0;
-    while q < PLACES {
-        let o = places[q];
-        let n = o.number;
-        numbers[q] = n;
-        q += 1;
-    }
-    numbers
+    places.map(|o| o.number)
 }
 
 // Writes the line of a polyvalue, where these transactions are open.
@@ -29,11 +20,8 @@ fn write_held(held: Polyvalue, open: [Open; PLACES], buf: &mut [u8]) -> Result<u
     ensures value { result ≡ line_shown buf.old (line_of place_count held «open») }
     ensures buf_after { buf.new ≡ written buf.old 0 (line_of place_count held «open») }
 {
-    let numbers = numbers_at(open);
-    match held.write_text(numbers, buf, 0) {
-        Ok(end) => Ok(end),
-        Err(NoRoom) => Err(Refusal::ShortBuffer),
-    }
+    held.write_text(numbers_at(open), buf, 0)
+        .or(Err(Refusal::ShortBuffer))
 }
 
 impl Book {
@@ -50,9 +38,6 @@ impl Book {
         if self.count <= i {
             return Err(Refusal::NoItem);
         }
-        let x = self.items[i];
-        let held = x.held;
-        let open = self.open;
-        write_held(held, open, buf)
+        write_held(self.items[i].held, self.open, buf)
     }
 }

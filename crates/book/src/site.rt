@@ -8,7 +8,7 @@ ghost use Rattle.book.specs.Transactions.{open_tests, site_tests, site_of};
 
 use crate::tables::place_of;
 use crate::{Book, Refusal};
-use conditions::{PLACES, Place, TransactionNumber};
+use conditions::{Place, TransactionNumber};
 
 // The transaction's number and its place, and the district.
 #[derive(Clone, Copy)]
@@ -26,11 +26,7 @@ impl Book {
         if !self.is_sound() {
             return Err(Refusal::Unsound);
         }
-        let q = place_of(self.open, n);
-        if PLACES <= q {
-            return Err(Refusal::NotOpen);
-        }
-        Ok(q)
+        place_of(self.open, n).ok_or(Refusal::NotOpen)
     }
 
     // The transaction and the district: 15, 4, 1.

@@ -18,10 +18,9 @@ pub(crate) fn good_counts(districts: usize, count: usize) -> bool
 }
 
 impl Book {
-    // Whether the book is sound: the counts, then every row. It walks the items itself, since a book
-    // that is handed on is copied.
-    pub fn is_sound(self) -> bool
-        ensures { result ≡ sound place_count self }
+    // Whether the book is sound: the counts, then every row.
+    pub fn is_sound(&self) -> bool
+        ensures { result ≡ sound place_count self.now }
     {
         if !good_counts(self.districts, self.count) {
             return false;
@@ -29,7 +28,7 @@ impl Book {
         let mut depended = 0;
         for x in &self.items[..self.count] {
             let its = places_of(*x);
-            if !sound_row(&self, *x, its) {
+            if !sound_row(self, *x, its) {
                 return false;
             }
             depended |= its;
@@ -44,6 +43,6 @@ impl Book {
             open: self.open,
             depended,
         };
-        sound_districts(&self) && sound_places(t)
+        sound_districts(self) && sound_places(t)
     }
 }

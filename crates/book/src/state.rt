@@ -22,13 +22,12 @@ pub struct State {
 
 impl State {
     // The item takes the value.
-    pub(crate) fn with(self, item: usize, value: Value) -> State
+    pub(crate) fn with(mut self, item: usize, value: Value) -> State
         requires { item < most_items }
         ensures { result ≡ state_rows (takes (state_of self) item value.0) }
     {
-        let mut s = self;
-        s.values[item] = value;
-        s
+        self.values[item] = value;
+        self
     }
 
     // The item takes the sum, or the step declines.
@@ -36,10 +35,8 @@ impl State {
         requires { item < most_items }
         ensures { result ≡ added (state_of self) item (old.0 +ℤ operand) }
     {
-        match sum(old.0, operand) {
-            Some(v) => Some(self.with(item, Value(v))),
-            None => None,
-        }
+        let v = sum(old.0, operand)?;
+        Some(self.with(item, Value(v)))
     }
 
     // The state after the step, if the step does not decline.

@@ -5,6 +5,7 @@ ghost use Rattle.conditions.specs.Places.{places as place_count};
 ghost use Rattle.conditions.specs.Sets.{set_of};
 ghost use Rattle.polyvalues.specs.Pairs.{depends};
 ghost use Rattle.polyvalues.specs.Polyvalues.{in_use};
+ghost use Rattle.book.specs.Found.{found};
 ghost use Rattle.book.specs.Book.{
   most_districts,
   no_record,
@@ -43,6 +44,7 @@ pub struct Tables {
     pub records: [Record; DISTRICTS],
     pub open: [Open; PLACES],
     pub depended: u8,
+    ghost few: { districts ≤ most_districts },
 }
 
 // The number of the transaction that a district with this record is on, 0 where it is idle.
@@ -76,14 +78,11 @@ fn is_named(o: Open, n: TransactionNumber) -> bool
     o.number.0 != 0 && o.number.0 == n.0
 }
 
-// The place of the open transaction with the number, or the number of places where none has it.
-pub(crate) fn place_of(places: [Open; PLACES], n: TransactionNumber) -> usize
-    ensures { result ≡ first place_count (λ q. named n.0 (get_or places q no_open)) }
+// The place of the open transaction with the number.
+pub(crate) fn place_of(places: [Open; PLACES], n: TransactionNumber) -> Option<usize>
+    ensures { result ≡ found place_count (first place_count (λ q. named n.0 (get_or places q no_open))) }
 {
-    places
-        .iter()
-        .position(|o| is_named(*o, n))
-        .unwrap_or(PLACES)
+    places.iter().position(|o| is_named(*o, n))
 }
 
 // The lowest free place, or the number of places where none is free.

@@ -7,6 +7,7 @@ ghost use Rattle.book.specs.Rows.{rows};
 ghost use Rattle.book.specs.Records.{begin_record};
 
 use crate::Record;
+use crate::records::COMPUTING;
 use crate::sets::{has, including};
 use crate::tables::{DISTRICTS, record_on};
 use conditions::TransactionNumber;
@@ -43,12 +44,11 @@ pub(crate) fn some_busy(records: [Record; DISTRICTS], districts: usize, set: u8)
 
 // The record of the district d when the districts of the set begin to compute.
 fn begun_record(r: Record, set: u8, d: usize, n: TransactionNumber) -> Record
-    requires { d < most_districts }
     ensures { result ≡ cond (member set d) (begin_record n.0) r }
 {
     if has(set, d) {
         Record {
-            phase: 1,
+            phase: COMPUTING,
             transaction: n,
         }
     } else {

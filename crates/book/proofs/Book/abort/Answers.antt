@@ -7,9 +7,9 @@ use Rattle.book.proofs.Laws.Answers.{and-accepted}
 use Rattle.book.proofs.Judging.{sound_and_open, done-in_ok, done-in_err}
 use Rattle.book.proofs.Book.abort.Goals as goal
 
-pub decided-requires : goal.decided-requires
+pub decided-after-requires : goal.decided-after-requires
 unfolding abort_answer
-decided-requires c =
+decided-after-requires c =
     let b = c.args.self in
     let judged = and-accepted (abort_answer places b c.args.n.0) c.in-Ok.ensures in
     let first = sound_and_open places b c.args.n.0 _ judged.0 in
@@ -21,7 +21,7 @@ returns-in-Ok c =
     let b = c.args.self in
     let n = c.args.n.0 in
     let judged = and-accepted (abort_answer places b n) c.in-Ok.ensures in
-    done-in_ok places (abort_answer places b n) (decide places b n 2) b (place_of places b n) c.in-Ok.ensures (c.decided.ensures n judged.1)
+    done-in_ok places (abort_answer places b n) (decide places b n 2) b (place_of places b n) c.in-Ok.ensures (c.decided-after.ensures n judged.1)
 
 pub returns-in-Err : goal.returns-in-Err
 unfolding abort

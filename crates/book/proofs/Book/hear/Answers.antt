@@ -11,9 +11,9 @@ use Rattle.book.proofs.Laws.Answers.{and-accepted}
 use Rattle.book.proofs.Judging.{sound_and_open, site_in, done-in_ok, done-in_err}
 use Rattle.book.proofs.Book.hear.Goals as goal
 
-pub heard-requires : goal.heard-requires
+pub heard-after-requires : goal.heard-after-requires
 unfolding hear_answer
-heard-requires c =
+heard-after-requires c =
     let b = c.args.self in
     let judged = and-accepted (hear_answer places b c.args.n.0 c.args.d) c.in-Ok.ensures in
     rw judged.1 (site_in places b c.args.n.0 c.args.d _ judged.0)
@@ -23,7 +23,7 @@ unfolding hear_answer heard
 forget-requires c =
     let b = c.args.self in
     let judged = and-accepted (hear_answer places b c.args.n.0 c.args.d) c.in-Ok.ensures in
-    few places b (sound_and_open places b c.args.n.0 _ judged.0).0 c.heard.ensures refl refl
+    few places b (sound_and_open places b c.args.n.0 _ judged.0).0 c.heard-after.ensures refl refl
 
 pub returns-in-Ok : goal.returns-in-Ok
 unfolding hear
@@ -33,7 +33,7 @@ returns-in-Ok c =
     let d = c.args.d in
     let judged = and-accepted (hear_answer places b n d) c.in-Ok.ensures in
     done-in_ok places (hear_answer places b n d) (heard places b n d) b (site_of places b n d) c.in-Ok.ensures
-    (c.forget.ensures ∙ ap (λ (a : Book). forget places a) (c.heard.ensures ∙ ap (λ (at : Site). heard places b at.number.0 at.district) judged.1))
+    (c.forget.ensures ∙ ap (λ (a : Book). forget places a) (c.heard-after.ensures ∙ ap (λ (at : Site). heard places b at.number.0 at.district) judged.1))
 
 pub returns-in-Err : goal.returns-in-Err
 unfolding hear

@@ -40,47 +40,44 @@ loop-x-init c = (refl, gathered_none width _)
 pub returns-then-not-sound_row : goal.returns-then-not-sound_row
 unfolding sound
 returns-then-not-sound_row c =
-    let few = (few-rows c.args.self.districts c.args.self.count c.good_counts.ensures (ap not c.if-not-good_counts.false)).1 in
-    let below : c.loop-x.x-index < c.args.self.count = omega (arith, length-take c.args.self.count c.args.self.items) in
-    let fails = sym (tested c.args.self c.loop-x.x-index below (c.sound_row.ensures c.places_of-its.ensures)) ∙ c.if-not-sound_row.true in
-    rw (all-fails most_items (sound_item width c.args.self) c.loop-x.x-index (omega arith) fails, and-false)
+    let few = (few-rows c.args.self.now.districts c.args.self.now.count c.good_counts.ensures (ap not c.if-not-good_counts.false)).1 in
+    let below : c.loop-x.x-index < c.args.self.now.count = omega (arith, length-take c.args.self.now.count c.args.self.now.items) in
+    let fails = sym (tested c.args.self.now c.loop-x.x-index below (c.sound_row.ensures c.places_of-its.ensures)) ∙ c.if-not-sound_row.true in
+    rw (all-fails most_items (sound_item width c.args.self.now) c.loop-x.x-index (omega arith) fails, and-false)
 
 pub loop-x-preserved : goal.loop-x-preserved
 loop-x-preserved c =
-    let below : c.loop-x.x-index < c.args.self.count = omega (arith, length-take c.args.self.count c.args.self.items) in (
-      rw add-one (all_more _ _ c.loop-x.invariant.0 (sym (tested c.args.self c.loop-x.x-index below (c.sound_row.ensures c.places_of-its.ensures)) ∙ c.if-not-sound_row.false)),
-      depended-more width c.args.self c.loop-x.x-index c.loop-x.depended c.loop-x.invariant.1
-          (c.places_of-its.ensures ∙ ap (λ (x : Item). set_of width (item_depends width x)) (here c.args.self c.loop-x.x-index below)),
+    let below : c.loop-x.x-index < c.args.self.now.count = omega (arith, length-take c.args.self.now.count c.args.self.now.items) in (
+      rw add-one (all_more _ _ c.loop-x.invariant.0 (sym (tested c.args.self.now c.loop-x.x-index below (c.sound_row.ensures c.places_of-its.ensures)) ∙ c.if-not-sound_row.false)),
+      depended-more width c.args.self.now c.loop-x.x-index c.loop-x.depended c.loop-x.invariant.1
+          (c.places_of-its.ensures ∙ ap (λ (x : Item). set_of width (item_depends width x)) (here c.args.self.now c.loop-x.x-index below)),
     )
 
 pub returns-then-not-zero_rows : goal.returns-then-not-zero_rows
 unfolding sound
 returns-then-not-zero_rows c =
-    let few = few-rows c.args.self.districts c.args.self.count c.good_counts.ensures (ap not c.if-not-good_counts.false) in
-    let long : length c.args.self.items ≡ most_items = search rules in
-    let last : c.loop-x.x-index ≡ c.args.self.count = omega (arith, length-take c.args.self.count c.args.self.items, few.1, long) in
-    let zeros : c.zero_rows.result ≡ list_all (λ x. same_item x no_item) (drop c.args.self.count c.args.self.items) =
-    c.zero_rows.ensures ∙ ap (list_all (λ x. same_item x no_item)) (to_the_end c.args.self.count c.args.self.items) in
-    let items = sym (items-past width c.args.self long few.1 (rw last at c.loop-x.invariant.0)) ∙ sym zeros in
+    let few = few-rows c.args.self.now.districts c.args.self.now.count c.good_counts.ensures (ap not c.if-not-good_counts.false) in
+    let long : length c.args.self.now.items ≡ most_items = search rules in
+    let last : c.loop-x.x-index ≡ c.args.self.now.count = omega (arith, length-take c.args.self.now.count c.args.self.now.items, few.1, long) in
+    let zeros : c.zero_rows.result ≡ list_all (λ x. same_item x no_item) (drop c.args.self.now.count c.args.self.now.items) =
+    c.zero_rows.ensures ∙ ap (list_all (λ x. same_item x no_item)) (to_the_end c.args.self.now.count most_items c.args.self.now.items long) in
+    let items = sym (items-past width c.args.self.now long few.1 (rw last at c.loop-x.invariant.0)) ∙ sym zeros in
     rw (items ∙ c.if-not-zero_rows.true, and-false)
-
-pub sound_places-requires : goal.sound_places-requires
-sound_places-requires c = (few-rows c.args.self.districts c.args.self.count c.good_counts.ensures (ap not c.if-not-good_counts.false)).0
 
 pub returns-then-sound_districts : goal.returns-then-sound_districts
 unfolding sound
 returns-then-sound_districts c =
-    let few = few-rows c.args.self.districts c.args.self.count c.good_counts.ensures (ap not c.if-not-good_counts.false) in
-    let long : length c.args.self.items ≡ most_items = search rules in
-    let last : c.loop-x.x-index ≡ c.args.self.count = omega (arith, length-take c.args.self.count c.args.self.items, few.1, long) in
-    let zeros : c.zero_rows.result ≡ list_all (λ x. same_item x no_item) (drop c.args.self.count c.args.self.items) =
-    c.zero_rows.ensures ∙ ap (list_all (λ x. same_item x no_item)) (to_the_end c.args.self.count c.args.self.items) in
-    let items = sym (items-past width c.args.self long few.1 (rw last at c.loop-x.invariant.0)) ∙ sym zeros in
-    let tables : TablesOf width c.args.self _ = record { last = refl; districts = refl; records = refl; places = refl; depended = all-depended width c.args.self c.loop-x.depended last c.loop-x.invariant.1 } in
-    c.sound_places.ensures c.args.self tables
+    let few = few-rows c.args.self.now.districts c.args.self.now.count c.good_counts.ensures (ap not c.if-not-good_counts.false) in
+    let long : length c.args.self.now.items ≡ most_items = search rules in
+    let last : c.loop-x.x-index ≡ c.args.self.now.count = omega (arith, length-take c.args.self.now.count c.args.self.now.items, few.1, long) in
+    let zeros : c.zero_rows.result ≡ list_all (λ x. same_item x no_item) (drop c.args.self.now.count c.args.self.now.items) =
+    c.zero_rows.ensures ∙ ap (list_all (λ x. same_item x no_item)) (to_the_end c.args.self.now.count most_items c.args.self.now.items long) in
+    let items = sym (items-past width c.args.self.now long few.1 (rw last at c.loop-x.invariant.0)) ∙ sym zeros in
+    let tables : TablesOf width c.args.self.now _ = record { last = refl; districts = refl; records = refl; places = refl; depended = all-depended width c.args.self.now c.loop-x.depended last c.loop-x.invariant.1 } in
+    c.sound_places.ensures c.args.self.now tables
     ∙ rw (
       sym c.good_counts.ensures ∙ c.if-not-good_counts.false,
-      number-last c.well_formed.0.1.1.0.1.1.0.1,
+      number-last {n = c.args.self.now.last.0} (search rules),
       sym c.sound_districts.ensures ∙ c.if-sound_districts.true,
       items ∙ c.if-not-zero_rows.false,
     )

@@ -11,9 +11,9 @@ use Rattle.book.proofs.Laws.Needing.{ready-forgets-none}
 use Rattle.book.proofs.Judging.{site_in, done-in_ok, done-in_err}
 use Rattle.book.proofs.Book.ready.Goals as goal
 
-pub readied-requires : goal.readied-requires
+pub readied-after-requires : goal.readied-after-requires
 unfolding ready_answer
-readied-requires c =
+readied-after-requires c =
     let b = c.args.self in
     let judged = and-accepted (ready_answer places b c.args.n.0 c.args.d) c.in-Ok.ensures in
     rw judged.1 (site_in places b c.args.n.0 c.args.d _ judged.0)
@@ -27,7 +27,7 @@ returns-in-Ok c =
     let judged = and-accepted (ready_answer places b n d) c.in-Ok.ensures in
     let tests = ready-tests places b n d (ap accepted judged.0) in
     done-in_ok places (ready_answer places b n d) (readied places b n d) b (site_of places b n d) c.in-Ok.ensures
-    (c.readied.ensures ∙ ap (λ (at : Site). readied places b at.number.0 at.district) judged.1 ∙ sym (ready-forgets-none places b n d tests.sound tests.last))
+    (c.readied-after.ensures ∙ ap (λ (at : Site). readied places b at.number.0 at.district) judged.1 ∙ sym (ready-forgets-none places b n d tests.sound tests.last))
 
 pub returns-in-Err : goal.returns-in-Err
 unfolding ready

@@ -1,5 +1,6 @@
 -- Where there are not too many values, all alternatives are worked out.
-use mathlib.Core.Path.{sym, ◌∙◌}
+use mathlib.Core.Path.{sym, ap, ◌∙◌}
+use Rattle.book.specs.declared.begin.Room.{Room}
 use native.Mathlib.Omega.{arith}
 use Rattle.conditions.specs.Places.{places}
 use Rattle.std.specs.Prelude.{Ok}
@@ -23,7 +24,7 @@ pub begun-after-requires-clause-districts_le_most_districts : goal.begun-after-r
 begun-after-requires-clause-districts_le_most_districts c =
     let pre = c.requires in
     let s = test-sound places c.args.b pre.b_value.0 in
-    (s.few_districts, s.few_items, pre.q_value.2)
+    (s.few_districts, s.few_items, pre.room_value.2)
 
 pub returns : goal.returns
 unfolding begun
@@ -33,5 +34,5 @@ returns c =
     let held : Held b = record { values = _; own = c.well_formed.0 } in
     let few = sym c.too_many.ensures ∙ c.if-too_many.false in
     let granted = c.granted-grant.ensures ∙ c.in-Some.ensures.granted in
-    let left = c.begun-after.ensures ∙ sym (begin-forgets-none places b (steps_of c.args.p) (test-sound places b pre.b_value.0) pre.b_value.1 (omega (arith, pre.q_value.0, pre.q_value.1)) (records-long held) (items-long held) (open-long held)) in
+    let left = c.begun-after.ensures ∙ sym (begin-forgets-none places b (steps_of c.args.p) (test-sound places b pre.b_value.0) pre.b_value.1 (omega (arith, ap (λ (r : Room). r.place) pre.room_value.0, pre.room_value.1)) (records-long held) (items-long held) (open-long held)) in
     rw few (λ k. record { answer = Ok tt; number = (c.begun-after.ensures k).last; grant = granted k; book = left k })

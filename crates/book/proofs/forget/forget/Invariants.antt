@@ -1,11 +1,7 @@
--- The loop's invariant: the places that the items before i depend on.
-use Prim.Native.Nat.{◌≤◌, ◌-◌}
+-- The loop's invariant: the places that the items before x depend on.
 use Rattle.conditions.specs.Places.{places as width}
 use Rattle.book.proofs.Depended.{DependedBy}
 use Rattle.book.proofs.forget.forget.Given as goal
 
-abbrev pub invariant-loop-i : goal.invariant-loop-i
-invariant-loop-i l = (l.i ≤ l.count) × DependedBy width l.b l.i l.depended
-
-abbrev pub decreases-loop-i : goal.decreases-loop-i
-decreases-loop-i l = l.count - l.i
+abbrev pub invariant-loop-x : goal.invariant-loop-x
+invariant-loop-x l = DependedBy width l.fn.b l.x-index l.depended

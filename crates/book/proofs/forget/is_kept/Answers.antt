@@ -9,15 +9,12 @@ pub returns-then-o-eq0 : goal.returns-then-o-eq0
 unfolding kept
 returns-then-o-eq0 c b o = rw (eq-eqb _ _ c.if-o-eq0.true)
 
-pub some_on-requires : goal.some_on-requires
-some_on-requires c = c.requires.0
-
 pub returns-then-some_on : goal.returns-then-some_on
 unfolding kept needed some_on
-returns-then-some_on c b o = rw (ne_eqb _ _ c.if-o-eq0.false, o.districts, o.records, sym c.some_on.ensures ∙ c.if-some_on.true)
+returns-then-some_on c b o = c.if-some_on.true ∙ rw (ne_eqb _ _ c.if-o-eq0.false, o.districts, o.records, sym c.some_on.ensures ∙ c.if-some_on.true)
 
-pub returns : goal.returns
+pub returns-else-some_on : goal.returns-else-some_on
 unfolding kept needed some_on
-returns c b o =
-    c.has.ensures ∙ o.depended c.args.q c.requires.1
+returns-else-some_on c b o =
+    c.has.ensures ∙ o.depended c.args.q c.requires
     ∙ rw (ne_eqb _ _ c.if-o-eq0.false, o.districts, o.records, sym c.some_on.ensures ∙ c.if-some_on.false)

@@ -7,6 +7,6 @@ pub returns-then-is_kept : goal.returns-then-is_kept
 unfolding remembered
 returns-then-is_kept c b o = rw (sym (c.is_kept.ensures b o) ∙ c.if-is_kept.true)
 
-pub returns : goal.returns
+pub returns-else-is_kept : goal.returns-else-is_kept
 unfolding remembered
-returns c b o = rw (sym (c.is_kept.ensures b o) ∙ c.if-is_kept.false)
+returns-else-is_kept c b o = rw (sym (c.is_kept.ensures b o) ∙ c.if-is_kept.false)

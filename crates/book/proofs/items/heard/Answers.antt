@@ -3,9 +3,9 @@ use borrow.Author.Tests.{tests}
 use Rattle.book.specs.Hear.{hear_item}
 use Rattle.book.proofs.items.heard.Goals as goal
 
-pub returns-then-x-d : goal.returns-then-x-d
+pub returns-then-x-at : goal.returns-then-x-at
 unfolding hear_item
-returns-then-x-d c = λ b e. search (rules, tests)
+returns-then-x-at c = λ b e. search (rules, tests)
 
 pub returns : goal.returns
 unfolding hear_item

@@ -4,10 +4,10 @@ use Rattle.book.specs.Items.{concerned}
 use Rattle.book.specs.Book.{item_on}
 use Rattle.book.proofs.items.is_concerned.Goals as goal
 
-pub returns-then-x-d : goal.returns-then-x-d
+pub returns-then-x-at : goal.returns-then-x-at
 unfolding concerned item_on
-returns-then-x-d c = λ b e. search (rules, tests)
+returns-then-x-at c = λ b e. search (rules, tests)
 
-pub returns-else-x-d : goal.returns-else-x-d
+pub returns-else-x-at : goal.returns-else-x-at
 unfolding concerned item_on
-returns-else-x-d c = λ b e. search (rules, tests)
+returns-else-x-at c = λ b e. search (rules, tests)

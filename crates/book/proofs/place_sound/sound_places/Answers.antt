@@ -11,7 +11,7 @@ unfolding all
 loop-q-init c = λ b o. refl
 
 pub sound_place-requires : goal.sound_place-requires
-sound_place-requires c = (c.requires, omega arith)
+sound_place-requires c = omega arith
 
 pub returns-then-not-sound_place : goal.returns-then-not-sound_place
 returns-then-not-sound_place c = λ b o. sym (all-fails _ _ c.loop-q.q (omega arith) (sym (c.sound_place.ensures b o) ∙ c.if-not-sound_place.true))

@@ -1,30 +1,22 @@
-use mathlib.Core.Path.{◌≡◌, refl}
-use native.Mathlib.Numerals.{add-one}
+use borrow.Author.Rules.{rules}
+use mathlib.Core.Path.{◌≡◌, sym, ◌∙◌}
+use mathlib.Core.List.{map}
 use native.Mathlib.Omega.{arith}
-use lib.ListN.{length}
+use Prim.Native.Nat.{ℕ, ◌<◌}
+use lib.ListN.{length, get_or, length-map, get_or-map}
+use Rattle.std.proofs.lemmas.List.{same_lists, get_or_default}
 use Rattle.conditions.specs.Places.{places as width}
+use Rattle.conditions.specs.declared.place.TransactionNumber.{TransactionNumber}
 use Rattle.book.specs.declared.Open.{Open}
 use Rattle.book.specs.Book.{no_open}
-use Rattle.book.proofs.Filling.{filled_more, filled-all}
 use Rattle.book.proofs.show.numbers_at.Goals as goal
 
-pub loop-q-init : goal.loop-q-init
-loop-q-init c = (omega arith, refl)
-
-pub bounds-places-q : goal.bounds-places-q
-bounds-places-q c = omega arith
-
-pub bounds-numbers-q : goal.bounds-numbers-q
-bounds-numbers-q c = omega arith
-
-pub loop-q-smaller : goal.loop-q-smaller
-loop-q-smaller c = omega arith
-
-pub loop-q-preserved : goal.loop-q-preserved
-loop-q-preserved c =
-    let rows = c.args.places in
-    let long : length rows ≡ width = c.well_formed.0.1.0.1 in
-    (omega arith, rw add-one (filled_more (λ (o : Open). o.number) no_open.number width rows c.loop-q.q no_open (omega arith) (omega arith) c.loop-q.invariant.1 refl))
-
 pub returns : goal.returns
-returns c = filled-all (λ (o : Open). o.number) no_open.number width c.args.places c.loop-q.q (omega arith) c.well_formed.0.1.0.1 c.loop-q.invariant.1
+returns c =
+    let h = c.map.ensures.items in
+    let xs = c.args.places in
+    let number : Open → TransactionNumber = λ o. o.number in
+    let long : length xs ≡ width = search rules in
+    let each : (i : ℕ) (d : TransactionNumber) → i < width → get_or c.map.result i d ≡ (get_or xs i no_open).number = λ i d l. (let k = (h.at i no_open d l).2 in search rules) in
+    same_lists c.map.result (map number xs) (omega (arith, h.long, long, length-map xs number)) (λ i d l.
+    each i d (omega (arith, h.long)) ∙ sym (get_or-map number xs i no_open) ∙ get_or_default (map number xs) i no_open.number d (omega (arith, h.long, long, length-map xs number)))

@@ -1,0 +1,69 @@
+use borrow.Author.Tests.{lt-ltb, le-ltb}
+use mathlib.Core.Path.{◌≡◌, sym, ap, ap₂, ◌∙◌}
+use mathlib.Core.Bool.{Bool, true, ◌&&◌, ◌||◌}
+use Prim.Native.Nat.{ℕ, ◌<◌, ◌≤◌}
+use lib.Dec.{eqb}
+use lib.ListN.{length, take, length-take}
+use borrow.Author.Rules.{rules}
+use Rattle.std.proofs.lemmas.List.{get_or-take}
+use Rattle.conditions.specs.Sets.{member}
+use Rattle.book.specs.declared.Book.{Book}
+use Rattle.book.specs.declared.Item.{Item}
+use Rattle.book.specs.SoundTest.{sound}
+use native.Mathlib.Omega.{arith}
+use Rattle.conditions.specs.Places.{places}
+use Rattle.book.specs.Answers.{first_of}
+use Rattle.book.specs.Book.{most_districts, most_items, void_item, free_place}
+use Rattle.book.specs.States.{steps_of}
+use Rattle.book.proofs.Laws.Sound.{test-sound}
+use Rattle.book.proofs.Loops.{gathered_none, gathered-more}
+use Rattle.book.proofs.Touching.{all-touched, touched-busy}
+use Rattle.std.specs.Prelude.{Ok}
+use Rattle.book.proofs.Book.room.Goals as goal
+
+-- the loop has gone through all items
+all_items : (b : Book) → sound places b ≡ true → length b.items ≡ most_items → (i : ℕ) → length (take b.count b.items) ≤ i → i ≤ length (take b.count b.items) → i ≡ b.count
+all_items b s long i h l = omega (arith, length-take b.count b.items, (test-sound places b s).few_items)
+
+pub loop-i-init : goal.loop-i-init
+loop-i-init c = (omega arith, gathered_none most_districts _)
+
+pub shared_ref_as_front-x-items : goal.shared_ref_as_front-x-items
+shared_ref_as_front-x-items c = (test-sound places _ c.requires).few_items
+
+pub loop-i-preserved : goal.loop-i-preserved
+loop-i-preserved c =
+    let b = c.args.self.now in
+    let i = c.loop-i.i in
+    let below : i < b.count = omega (arith, length-take b.count b.items) in
+    let district = ap (λ (x : Item). x.district) (get_or-take b.count b.items i void_item below) in
+    (omega arith, gathered-more most_districts _ i c.loop-i.set _ c.loop-i.invariant.1 (λ d h. c.with_district-set.ensures d h ∙ ap₂ (λ (t : Bool) (e : ℕ). member c.loop-i.set d || (t && eqb e d)) c.touches.ensures district))
+
+pub some_busy-requires : goal.some_busy-requires
+some_busy-requires c = (test-sound places c.args.self.now c.requires).few_districts
+
+pub returns-then-some_busy : goal.returns-then-some_busy
+unfolding first_of
+returns-then-some_busy c =
+    let last = all_items c.args.self.now c.requires (search rules) c.loop-i.i (omega arith) (omega arith) in
+    rw (sym (touched-busy c.args.self.now (steps_of c.args.p) c.loop-i.set last c.loop-i.invariant places c.requires c.some_busy.ensures) ∙ c.if-some_busy.true)
+
+pub returns-then-q-ge-PLACES : goal.returns-then-q-ge-PLACES
+unfolding first_of free_place
+returns-then-q-ge-PLACES c =
+    let last = all_items c.args.self.now c.requires (search rules) c.loop-i.i (omega arith) (omega arith) in
+    rw (sym (touched-busy c.args.self.now (steps_of c.args.p) c.loop-i.set last c.loop-i.invariant places c.requires c.some_busy.ensures) ∙ c.if-some_busy.false, ← c.free_place-q.ensures, le-ltb _ _ c.if-q-ge-PLACES.true)
+
+pub returns-then-self-ge-NUMBERS : goal.returns-then-self-ge-NUMBERS
+unfolding first_of free_place
+returns-then-self-ge-NUMBERS c =
+    let last = all_items c.args.self.now c.requires (search rules) c.loop-i.i (omega arith) (omega arith) in
+    rw (sym (touched-busy c.args.self.now (steps_of c.args.p) c.loop-i.set last c.loop-i.invariant places c.requires c.some_busy.ensures) ∙ c.if-some_busy.false, ← c.free_place-q.ensures, lt-ltb _ _ c.if-q-ge-PLACES.false, le-ltb _ _ c.if-self-ge-NUMBERS.true)
+
+pub returns : goal.returns
+unfolding first_of free_place
+returns c =
+    let last = all_items c.args.self.now c.requires (search rules) c.loop-i.i (omega arith) (omega arith) in
+    let touched = all-touched c.args.self.now (steps_of c.args.p) c.loop-i.set last c.loop-i.invariant in
+    rw (sym (touched-busy c.args.self.now (steps_of c.args.p) c.loop-i.set last c.loop-i.invariant places c.requires c.some_busy.ensures) ∙ c.if-some_busy.false, ← c.free_place-q.ensures, lt-ltb _ _ c.if-q-ge-PLACES.false, lt-ltb _ _ c.if-self-ge-NUMBERS.false)
+    (λ k. Ok (record { place = c.free_place-q.result; districts = touched k }))
