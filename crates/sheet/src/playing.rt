@@ -1,7 +1,7 @@
 // Playing an event: the book's call for it, and its line, written into a lent buffer.
 ghost use Rattle.std.specs.Prelude.{◌≡◌, ◌-◌, take, drop};
 ghost use Rattle.conditions.specs.Places.{places};
-ghost use Rattle.sheet.specs.Play.{of_begun, of_done, of_show, event_result, played, played_buffer};
+ghost use Rattle.sheet.specs.Play.{of_begun, of_done, of_show, played, played_buffer};
 ghost use Rattle.sheet.specs.Plays.{Blank, PlaysLine};
 
 use crate::events::Event;
@@ -81,11 +81,19 @@ fn shown(book: Book, item: u8, position: u64, line: &mut Line) -> Played
     }
 }
 
-// An event of the sheet, at its position, on the book.
-fn play_line(book: Book, sheet: &[u8], event: Event, position: u64, line: &mut Line) -> Played
-    requires { Blank line.old }
-    ensures { PlaysLine (event_result places book sheet.now event) position line.old result line.new }
+// The call: an event of the sheet, at its position, on the book.
+#[tactic(auto, unfolding(crate::specs::Play::played, crate::specs::Play::played_buffer, crate::specs::Lines::line_answer, crate::specs::Lines::line_written))]
+pub fn play(book: Book, sheet: &[u8], event: Event, position: u64, buf: &mut [u8]) -> Played
+    ensures value { result ≡ played places book sheet.now event position buf.old }
+    ensures buf_after { buf.new ≡ played_buffer places book sheet.now event position buf.old }
 {
+    if buf.len() < LONGEST_LINE {
+        return Played {
+            written: Err(NoRoom),
+            book,
+        };
+    }
+    let line = &mut Line { buf, end: 0 };
     match event {
         Event::Begin { from, to } => {
             let steps = between(sheet, from, to);
@@ -98,20 +106,4 @@ fn play_line(book: Book, sheet: &[u8], event: Event, position: u64, line: &mut L
         Event::Hear { number, district } => done(book.hear(number, district), position, line),
         Event::Show { item } => shown(book, item, position, line),
     }
-}
-
-// The call. Where the buffer has no room for any line, nothing is played.
-#[tactic(auto, unfolding(crate::specs::Play::played, crate::specs::Play::played_buffer, crate::specs::Lines::line_answer, crate::specs::Lines::line_written))]
-pub fn play(book: Book, sheet: &[u8], event: Event, position: u64, buf: &mut [u8]) -> Played
-    ensures value { result ≡ played places book sheet.now event position buf.old }
-    ensures buf_after { buf.new ≡ played_buffer places book sheet.now event position buf.old }
-{
-    if buf.len() < LONGEST_LINE {
-        return Played {
-            written: Err(NoRoom),
-            book,
-        };
-    }
-    let mut line = Line { buf, end: 0 };
-    play_line(book, sheet, event, position, &mut line)
 }
