@@ -1,31 +1,25 @@
 -- A begun book, as the code has it.
 use mathlib.Core.Path.{◌≡◌, refl, ap, ap₂, ◌∙◌}
-use mathlib.Core.Bool.{Bool, true, false, not, cond}
+use mathlib.Core.Bool.{Bool, cond}
 use mathlib.Core.List.{List, [], ◌∷◌}
 use Prim.Native.Nat.{ℕ, zero, suc, ◌+◌, ◌≤◌, ◌<◌}
 use native.Mathlib.Omega.{arith}
-use lib.Dec.{ltb}
 use lib.ListN.{get_or, set}
 use Rattle.conditions.specs.Sets.{member, set_of}
 use Rattle.conditions.proofs.Laws.Sets.{member-set_of}
 use Rattle.polyvalues.specs.declared.polyvalue.Polyvalue.{Polyvalue}
-use Rattle.book.specs.declared.Refusal.{Refusal}
-use Rattle.book.specs.declared.Refusal.TheVariants.{NotIdle, AllOpen, NumbersGiven, TooManyValues}
-use Rattle.book.specs.declared.Begun.{Begun}
 use Rattle.book.specs.declared.Book.{Book}
 use Rattle.book.specs.declared.Item.{Item}
 use Rattle.book.specs.declared.Record.{Record}
 use Rattle.book.specs.declared.Step.{Step}
 use Rattle.book.specs.declared.alternatives.Worked.{Worked}
-use Rattle.book.specs.Answers.{first_of}
 use Rattle.book.specs.Rows.{rows_from, rows}
-use Rattle.book.specs.Book.{most_districts, last_number, void, free_place, with_items}
+use Rattle.book.specs.Book.{most_districts, void, free_place, with_items}
 use Rattle.book.specs.Items.{becomes}
-use Rattle.book.specs.Programs.{steps, touches, some_step}
+use Rattle.book.specs.Programs.{touches}
 use Rattle.book.specs.Records.{begin_record}
-use Rattle.book.specs.Begin.{bad_program, outside, some_busy, too_many, begin_answer, touches_district, begin_item, begun, begins, begin}
+use Rattle.book.specs.Begin.{touches_district, begin_item, begun}
 use Rattle.book.specs.Alternatives.{WorkedOut}
-use Rattle.book.specs.SoundTest.{sound}
 use Rattle.conditions.proofs.Laws.Below.{by_cases}
 
 -- an item: the row that was worked out is its result

@@ -1,10 +1,9 @@
 -- Rows that are filled one after the other, each from a row of another table.
 use mathlib.Core.Path.{◌≡◌, refl, ap, ◌∙◌}
-use mathlib.Core.List.{List, [], ◌∷◌, ◌++◌, map, append-nil}
+use mathlib.Core.List.{List, [], ◌∷◌, ◌++◌, map}
 use Prim.Native.Nat.{ℕ, zero, suc, ◌-◌, ◌<◌}
 use native.Mathlib.Omega.{arith}
 use lib.ListN.{length, get_or, take, set, replicate}
-use lib.Seq.{take-length}
 
 -- the first i of them are filled
 abbrev pub filled_upto : {A B : Type 0} → (A → B) → B → ℕ → ℕ → List A → List B

@@ -1,5 +1,5 @@
 -- The program and then its room.
-use mathlib.Core.Path.{◌≡◌, sym, ap, ◌∙◌}
+use mathlib.Core.Path.{◌≡◌, ap, ◌∙◌}
 use mathlib.Core.List.{List}
 use borrow.Author.Tests.{not-false}
 use Rattle.std.proofs.Common.{rules}
@@ -8,8 +8,6 @@ use Rattle.std.specs.Result.{result_and}
 use Rattle.conditions.specs.Places.{places}
 use Rattle.book.specs.declared.Step.{Step}
 use Rattle.book.specs.declared.program.Program.{Program}
-use Rattle.book.specs.declared.begin.Room.{Room}
-use Rattle.book.specs.declared.Refusal.{Refusal}
 use Rattle.book.specs.Answers.{accepted, first_of}
 use Rattle.book.specs.Programs.{steps}
 use Rattle.book.specs.States.{steps_of, program_of}
