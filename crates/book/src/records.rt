@@ -55,6 +55,7 @@ fn hear(district: &mut Record, n: TransactionNumber)
 }
 
 // The record after ready.
+// kept: document 01 lends the step one record alone, with a thin function each for ready, give up and hear.
 pub(crate) fn readied(mut r: Record) -> Record
     ensures { result ≡ ready_record r }
 {

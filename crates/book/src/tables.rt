@@ -64,6 +64,7 @@ pub(crate) fn district_on(records: [Record; DISTRICTS], district: u8) -> u16
 }
 
 // Whether a district is on the transaction.
+// kept: lent `&records[..districts]`, each caller would have to show the same bound there: no plainer.
 pub(crate) fn some_on(records: [Record; DISTRICTS], districts: usize, n: u16) -> bool
     requires { districts ≤ most_districts }
     ensures { result ≡ any districts (λ d. eqb (record_on (get_or records d no_record)) n) }

@@ -32,6 +32,7 @@ fn is_busy(r: Record, set: u8, d: usize) -> bool
 }
 
 // Whether a district of the set is.
+// kept: lent `&records[..districts]`, each caller would have to show the same bound there: no plainer.
 pub(crate) fn some_busy(records: [Record; DISTRICTS], districts: usize, set: u8) -> bool
     requires { districts ≤ most_districts }
     ensures { result ≡ any districts (λ d. member set d && not (eqb (record_on (get_or records d no_record)) 0)) }
