@@ -6,17 +6,14 @@ use Prim.Native.Nat.{ℕ, zero, suc, ◌+◌, ◌-◌, ◌≤◌, ◌<◌}
 use native.Mathlib.Numerals.{add-one, one-add}
 use native.Mathlib.Omega.{arith}
 use lib.Dec.{ltb}
-use borrow.Author.Tests.{lt-ltb, le-ltb, ltb-true, ltb-false}
+use borrow.Author.Tests.{ltb-true, ltb-false}
 use Rattle.std.proofs.lemmas.Option.{none-some, same_Some}
-use native.Mathlib.Decide.{dec_lt}
 use lib.ListN.{length, get_or, take, drop}
 use lib.Seq.{take-length}
 use native.Mathlib.Nat.{zero-add}
 use Rattle.std.specs.List.{list_any, list_all, position_or_len, enumerate_from, range_with_len}
-use Rattle.std.specs.Option.{unwrap_or}
-use Rattle.std.proofs.Common.{Option, Some, None}
+use Rattle.std.proofs.Common.{Some, None}
 use Rattle.std.proofs.lemmas.List.Folds.{list_any_more, list_all_more}
-use Rattle.std.proofs.lemmas.List.Sums.{prefix_len-le-length}
 use Rattle.std.proofs.lemmas.List.FromFn.{length-enumerate_from, get_or-enumerate_from, length-range_with_len, get_or-range_with_len}
 use Rattle.std.proofs.lemmas.List.{length-take-le, length-drop, get_or-take, get_or-drop}
 use Rattle.conditions.specs.Below.{any, all, first}
@@ -56,20 +53,7 @@ first_row p z (x ∷ xs) = at_head (p x) (first_row p z xs)
     at_head true e = refl
     at_head false e = rw one-add (ap suc e)
 
--- the number of the first row that passes, or that of all rows where none does
-pub found_row : {A : Type 0} (p : A → Bool) (z : A) (xs : List A) {o : Option ℕ} {k r : ℕ} → length xs ≡ k
-    → o ≡ cond (ltb (position_or_len p xs) (length xs)) (Some (position_or_len p xs)) None → r ≡ unwrap_or o k → r ≡ first k (λ i. p (get_or xs i z))
-found_row p z xs {o} {k} {r} long e f =
-    f ∙ ap (λ (q : Option ℕ). unwrap_or q k) e ∙ pick (position_or_len p xs) (prefix_len-le-length (λ x. not (p x)) xs) ∙ first_row p z xs ∙ ap (λ (n : ℕ). first n (λ i. p (get_or xs i z))) long
-  where
-    pick : (n : ℕ) → n ≤ length xs → unwrap_or (cond (ltb n (length xs)) (Some n) None) k ≡ n
-    pick n h = go (dec_lt n (length xs))
-      where
-        go : Dec (n < length xs) → unwrap_or (cond (ltb n (length xs)) (Some n) None) k ≡ n
-        go (yes l) = rw (lt-ltb n (length xs) l)
-        go (no l) = let past : length xs ≤ n = omega arith in rw (le-ltb n (length xs) past) (omega arith)
-
--- that number, or none
+-- the number of the first row that passes, or none
 pub found_first : {A : Type 0} (p : A → Bool) (z : A) (xs : List A) {k : ℕ} → length xs ≡ k
     → cond (ltb (position_or_len p xs) (length xs)) (Some (position_or_len p xs)) None ≡ found k (first k (λ i. p (get_or xs i z)))
 unfolding found

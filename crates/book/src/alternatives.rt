@@ -129,6 +129,7 @@ impl Worked {
     }
 
     // 1 if no assignment declines, 0 if all do, 2 otherwise.
+    // kept: a number: `Begun.grant`, `Begin.grant` and the sheet's line hold the document's own.
     pub(crate) fn granted(&self) -> u8
         ensures { result ≡ grant_of self.now.declines self.now.grants }
     {
@@ -160,6 +161,7 @@ pub(crate) fn worked_out(b: Book, p: Program) -> Option<Worked>
 {
     let mut done = nothing_worked();
     let mut next: usize = 0;
+    // kept: no count: the next one is the lowest assignment that no block has covered yet.
     while next < ASSIGNMENTS {
         let start = alternative_under(&b, p, next);
         done = done.after(b.count, p, start)?;

@@ -16,7 +16,7 @@ use crate::program::{Program, bad_program, read};
 use crate::tables::free_place;
 use crate::touched::{begun_records, some_busy, with_district};
 use crate::{Begun, Book, Item, Open, Refusal};
-use conditions::{PLACES, TransactionNumber};
+use conditions::TransactionNumber;
 use polyvalues::Polyvalue;
 
 // How many numbers can be given.
@@ -130,10 +130,9 @@ impl Book {
         if some_busy(self.records, self.districts, set) {
             return Err(Refusal::NotIdle);
         }
-        let q = free_place(self.open);
-        if PLACES <= q {
+        let Some(q) = free_place(self.open) else {
             return Err(Refusal::AllOpen);
-        }
+        };
         if NUMBERS <= self.last.0 {
             return Err(Refusal::NumbersGiven);
         }

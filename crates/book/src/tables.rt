@@ -85,14 +85,11 @@ pub(crate) fn place_of(places: [Open; PLACES], n: TransactionNumber) -> Option<u
     places.iter().position(|o| is_named(*o, n))
 }
 
-// The lowest free place, or the number of places where none is free.
-pub(crate) fn free_place(places: [Open; PLACES]) -> usize
-    ensures { result ≡ first place_count (λ q. not (is_open (get_or places q no_open))) }
+// The lowest free place.
+pub(crate) fn free_place(places: [Open; PLACES]) -> Option<usize>
+    ensures { result ≡ found place_count (first place_count (λ q. not (is_open (get_or places q no_open)))) }
 {
-    places
-        .iter()
-        .position(|o| o.number.0 == 0)
-        .unwrap_or(PLACES)
+    places.iter().position(|o| o.number.0 == 0)
 }
 
 // Whether the item's held or pending polyvalue depends on the place.

@@ -5,51 +5,49 @@
 // fails, it stops without a word.
 #![tactic(auto)]
 
-ghost use Rattle.std.specs.Prelude.{◌≤◌, length};
+ghost use Rattle.std.specs.Prelude.{◌≤◌, length, IfSome};
 
 use book::Answer;
-use sheet::{LONGEST_LINE, MOST_BYTES, Opened, Read, event_at, open, play, write_refusal};
+use sheet::{Found, LONGEST_LINE, MOST_BYTES, Opened, event_at, open, play, write_refusal};
 
 // Standard input and standard output, as the system numbers them.
 const STDIN: i32 = 0;
 
 const STDOUT: i32 = 1;
 
-// Makes room for a line behind the bytes that wait, and answers where it may stand. Where the output
-// took nothing that is the buffer's end, which has room for none.
-fn room(out: &[u8], waiting: usize) -> usize
+// Makes room for a line behind the bytes that wait, and answers where it may stand: nowhere, where
+// the output took nothing.
+fn room(out: &[u8], waiting: usize) -> Option<usize>
     requires { waiting ≤ length out.now }
-    ensures { result ≤ length out.now }
+    ensures { IfSome result (λ place. place ≤ length out.now) }
 {
-    let n = out.len();
-    if LONGEST_LINE <= n - waiting {
-        return waiting;
+    if LONGEST_LINE <= out.len() - waiting {
+        return Some(waiting);
     }
-    if io::write_all(STDOUT, &out[..waiting]) {
-        return 0;
-    }
-    n
+    io::write_all(STDOUT, &out[..waiting]).then_some(0)
 }
 
 // Plays the events of a good sheet.
 fn play_all(opened: Opened, sheet: &[u8], out: &mut [u8]) {
-    let n = out.len();
     let mut book = opened.book;
     let mut at = opened.first;
     let mut waiting: usize = 0;
+    // kept: `as`, since u64 is made From no usize (as in Rust), and try_from would add a branch that no sheet reaches.
     for position in 1..=opened.count as u64 {
-        let Ok(Read { value: event, next }) = event_at(sheet, at) else {
+        let Ok(Found { event, next }) = event_at(sheet, at) else {
             return;
         };
-        waiting = room(out, waiting);
-        let played = play(book, sheet, event, position, &mut out[waiting..]);
+        let Some(place) = room(out, waiting) else {
+            return;
+        };
+        let played = play(book, sheet, event, position, &mut out[place..]);
         let Ok(len) = played.written else {
             return;
         };
-        if n - waiting < len {
+        if out.len() - place < len {
             return;
         }
-        waiting += len;
+        waiting = place + len;
         book = played.book;
         at = next;
     }
@@ -60,6 +58,7 @@ fn play_all(opened: Opened, sheet: &[u8], out: &mut [u8]) {
 
 // Prints the line of a refused sheet.
 fn refuse(answer: Answer, place: usize, out: &mut [u8]) {
+    // kept: `as`, for the same reason as in `play_all`.
     let Ok(end) = write_refusal(answer, place as u64, out) else {
         return;
     };

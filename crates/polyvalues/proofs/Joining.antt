@@ -10,17 +10,16 @@ use lib.ListN.{length, get_or, drop, drop_of_length-le, length-map}
 use Rattle.std.specs.Prelude.{Option, Some, None, ok_or}
 use Rattle.conditions.specs.Places.{places}
 use Rattle.conditions.specs.Sets.{member, set_of}
-use Rattle.conditions.specs.Conditions.{depends_on}
+use Rattle.conditions.specs.Conditions.{selected, depends_on}
 use Rattle.conditions.proofs.Laws.Sets.{member-none, member-or, member-set_of, is-set_of}
 use Rattle.conditions.proofs.Laws.Below.{by_cases}
 use Rattle.conditions.proofs.Laws.Lists.{drop-take}
 use Rattle.polyvalues.specs.declared.polyvalue.Pair.{Pair}
 use Rattle.polyvalues.specs.declared.polyvalue.Polyvalue.{Polyvalue}
-use Rattle.polyvalues.specs.declared.operations.Cut.TheVariants.{Completed, Aborted}
 use Rattle.polyvalues.specs.Pairs.{pair, assignments, no_pair, depends}
 use Rattle.polyvalues.specs.Polyvalues.{most_pairs, rows_of, in_use, packed, fitting, fitted}
 use Rattle.polyvalues.specs.Simplify.{join, simplified_from, simplified}
-use Rattle.polyvalues.specs.Operations.{cut, changed, select}
+use Rattle.polyvalues.specs.Operations.{changed, select}
 use Rattle.polyvalues.proofs.Laws.Simplify.{grows_from, length-simplified}
 use Rattle.polyvalues.proofs.Laws.Packed.{in_use-packed}
 use Rattle.polyvalues.proofs.Inserting.{fitting-yes, fits-yes, fits-no}
@@ -82,12 +81,12 @@ unfolding simplified_from
 from-append w done [] qs = refl
 from-append w done (p ∷ ps) qs = from-append w (join w p.value (assignments p) done) ps qs
 
-pub selected-rows : (w i : ℕ) (done gone t : Polyvalue) → t ≡ packed (simplified w (changed (cut w i Completed) (in_use done)))
-    → simplified_from w (in_use t) (changed (cut w i Aborted) (in_use gone)) ≡ select w i (in_use done) (in_use gone)
+pub selected-rows : (w i : ℕ) (done gone t : Polyvalue) → t ≡ packed (simplified w (changed (λ c. selected w i c 0) (in_use done)))
+    → simplified_from w (in_use t) (changed (λ c. selected w i 0 c) (in_use gone)) ≡ select w i (in_use done) (in_use gone)
 unfolding select simplified
 selected-rows w i done gone t e =
-    ap (λ (l : List Pair). simplified_from w l (changed (cut w i Aborted) (in_use gone))) (packed-in_use _ e)
-    ∙ sym (from-append w [] (changed (cut w i Completed) (in_use done)) (changed (cut w i Aborted) (in_use gone)))
+    ap (λ (l : List Pair). simplified_from w l (changed (λ c. selected w i 0 c) (in_use gone))) (packed-in_use _ e)
+    ∙ sym (from-append w [] (changed (λ c. selected w i c 0) (in_use done)) (changed (λ c. selected w i 0 c) (in_use gone)))
 
 -- ---- one turn of the loop over the rows: `new` is row i with its condition changed
 

@@ -1,8 +1,8 @@
 -- What holding a polyvalue tells of it: it has all its rows, and its conditions are sets of assignments.
-use mathlib.Core.Path.{◌≡◌, refl, sym, ap₂, ◌∙◌, subst⁻¹}
+use mathlib.Core.Path.{◌≡◌, refl, sym, ap, ap₂, ◌∙◌, subst⁻¹}
 use mathlib.Core.Bool.{Bool, true, ◌&&◌}
 use mathlib.Core.List.{List, [], ◌∷◌}
-use Prim.Native.Nat.{ℕ, zero, suc}
+use Prim.Native.Nat.{ℕ, zero, suc, ◌<◌, ◌^◌}
 use native.Mathlib.Omega.{arith}
 use denote.Array.{each as elements}
 use denote.Shadow.{shadow}
@@ -13,9 +13,10 @@ use lib.ListN.{length, get_or, take}
 use mir.Val.{Val, SFits}
 use Rattle.polyvalues.specs.declared.polyvalue.Pair.{Pair}
 use Rattle.polyvalues.specs.declared.polyvalue.Polyvalue.{Polyvalue}
-use borrow.Author.Tests.{lt-ltb}
+use borrow.Author.Tests.{lt-ltb, ltb-true}
 use Rattle.conditions.specs.declared.condition.Condition.{Condition}
 use Rattle.conditions.specs.Places.{places}
+use Rattle.conditions.specs.Conditions.{number}
 use Rattle.conditions.proofs.Laws.Below.{and_left, and_right}
 use Rattle.polyvalues.specs.Pairs.{no_pair}
 use Rattle.polyvalues.specs.Polyvalues.{each, of_places, most_pairs, paired, rows_of, in_use, AllRows}
@@ -65,3 +66,13 @@ each_take f (suc n) (p ∷ ps) e = ap₂ ◌&&◌ (and_left (f p) _ e) (each_tak
 pub conditions-of_places : {q : Polyvalue} → Held q → each (of_places places) (in_use q) ≡ true
 unfolding in_use
 conditions-of_places {q} h = each_take (of_places places) q.count (rows_of q) (rows-of_places q.values q.conditions h.own.1.1.1.1.0.0 h.own.1.1.1.1.0.1.1)
+
+each_at : (f : Pair → Bool) (ps : List Pair) (i : ℕ) → f no_pair ≡ true → each f ps ≡ true → f (get_or ps i no_pair) ≡ true
+each_at f [] i z e = z
+each_at f (p ∷ ps) zero z e = and_left (f p) _ e
+each_at f (p ∷ ps) (suc i) z e = each_at f ps i z (and_right (f p) _ e)
+
+pub row-of_places : {q : Polyvalue} → Held q → (i : ℕ) {p : Pair} → p ≡ get_or (rows_of q) i no_pair → number p.condition < 2 ^ 2 ^ places
+row-of_places {q} h i {p} e =
+    ltb-true (number p.condition) (2 ^ 2 ^ places)
+    (ap (of_places places) e ∙ each_at (of_places places) (rows_of q) i refl (rows-of_places q.values q.conditions h.own.1.1.1.1.0.0 h.own.1.1.1.1.0.1.1))

@@ -4,17 +4,9 @@ use Rattle.std.specs.Prelude.{Bool, true, false, not, ◌&&◌, ◌||◌, List, 
 use Rattle.conditions.specs.Sets.{digit}
 use Rattle.conditions.specs.Conditions.{reduced, selected}
 use Rattle.polyvalues.specs.declared.polyvalue.Pair.{Pair}
-use Rattle.polyvalues.specs.declared.operations.Cut.{Cut}
-use Rattle.polyvalues.specs.declared.operations.Cut.TheVariants.{Reduced, Completed, Aborted}
 use Rattle.polyvalues.specs.Values.{equal}
 use Rattle.polyvalues.specs.Pairs.{pair, assignments}
 use Rattle.polyvalues.specs.Simplify.{simplified}
-
--- what becomes of a condition: its place i is set to an outcome, or it is cut to where the place is completed, or to where it is aborted
-abbrev pub cut : ℕ → ℕ → Cut → ℕ → ℕ
-cut w i (Reduced b) c = reduced w c i b
-cut w i Completed c = selected w i c 0
-cut w i Aborted c = selected w i 0 c
 
 -- each pair with its condition changed
 abbrev pub changed : (ℕ → ℕ) → List Pair → List Pair
@@ -22,11 +14,11 @@ changed f ps = map (λ p. pair p.value (f (assignments p))) ps
 
 -- "its value under an assignment is the old one with that place set to the outcome": the place i, the outcome b
 unfoldable pub reduce : ℕ → ℕ → Bool → List Pair → List Pair
-reduce w i b ps = simplified w (changed (cut w i (Reduced b)) ps)
+reduce w i b ps = simplified w (changed (λ c. reduced w c i b) ps)
 
 -- "each item becomes its pending value where the transaction completes and its held value where it aborts": done and gone, of the transaction at place i
 unfoldable pub select : ℕ → ℕ → List Pair → List Pair → List Pair
-select w i done gone = simplified w (changed (cut w i Completed) done ++ changed (cut w i Aborted) gone)
+select w i done gone = simplified w (changed (λ c. selected w i c 0) done ++ changed (λ c. selected w i 0 c) gone)
 
 -- v is one of the values of a list
 abbrev pub occurs : ℤ → List Pair → Bool

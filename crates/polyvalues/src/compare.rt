@@ -10,6 +10,7 @@ use crate::polyvalue::{Pair, Polyvalue};
 
 impl Polyvalue {
     // Whether two polyvalues are the same pairs.
+    // kept: docs/PROMISES.md names it, of the rows in use; == compares those past the count too.
     pub fn same(self, other: Polyvalue) -> bool
         ensures { result ≡ same (in_use self) (in_use other) }
     {

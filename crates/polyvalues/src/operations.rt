@@ -1,46 +1,17 @@
 // What hearing, giving up and beginning do to a polyvalue.
-ghost use Rattle.std.specs.Prelude.{◌≡◌};
+ghost use Rattle.std.specs.Prelude.{◌≡◌, ℕ, ◌^◌, ◌<◌};
 ghost use Rattle.conditions.specs.Places.{places};
 ghost use Rattle.conditions.specs.Conditions.{number};
+ghost use Rattle.conditions.specs.declared.condition.Condition.{Condition};
 ghost use Rattle.conditions.specs.Sets.{set_of};
-ghost use Rattle.polyvalues.specs.Pairs.{pair, assignments, depends, applying};
+ghost use Rattle.polyvalues.specs.Pairs.{depends, applying};
 ghost use Rattle.polyvalues.specs.Polyvalues.{in_use, packed, fitting, fitted};
 ghost use Rattle.polyvalues.specs.Simplify.{join, simplified_from};
-ghost use Rattle.polyvalues.specs.Operations.{cut, changed, reduce, select};
+ghost use Rattle.polyvalues.specs.Operations.{changed, reduce, select};
 
 use crate::polyvalue::{NinthValue, Pair, Polyvalue};
 use crate::rows::with_pair;
 use conditions::{Condition, Place};
-
-// What becomes of each condition: a place is set to an outcome, or the condition is cut to where the
-// place is completed, or to where it is aborted.
-#[derive(Clone, Copy, Debug, PartialEq, Eq)]
-pub enum Cut {
-    Reduced(bool),
-    Completed,
-    Aborted,
-}
-
-// A condition changed as is asked.
-fn cut_condition(c: Condition, place: Place, how: Cut) -> Condition
-    ensures { number result ≡ cut places place.0 how (number c) }
-{
-    match how {
-        Cut::Reduced(outcome) => c.reduce(place, outcome),
-        Cut::Completed => Condition::select(place, c, Condition::EMPTY),
-        Cut::Aborted => Condition::select(place, Condition::EMPTY, c),
-    }
-}
-
-// The same of a pair's condition.
-fn cut_pair(row: Pair, place: Place, how: Cut) -> Pair
-    ensures { result ≡ pair row.value (cut places place.0 how (assignments row)) }
-{
-    Pair {
-        value: row.value,
-        condition: cut_condition(row.condition, place, how),
-    }
-}
 
 impl Polyvalue {
     // The value under the condition joined into the polyvalue.
@@ -52,15 +23,25 @@ impl Polyvalue {
     }
 }
 
-// The rows joined one after the other, each with its condition changed.
-fn join_rows(start: Polyvalue, rows: Polyvalue, place: Place, how: Cut) -> Option<Polyvalue>
-    requires { start ≡ packed (in_use start) }
-    ensures { result ≡ fitting (simplified_from places (in_use start) (changed (cut places place.0 how) (in_use rows))) }
+// The rows joined one after the other, each with its condition cut, if there is room for them.
+fn join_rows<F: Fn(Condition) -> Condition>(
+    start: Polyvalue,
+    rows: Polyvalue,
+    cut: F,
+) -> Option<Polyvalue>
+    requires start_tidy { start ≡ packed (in_use start) }
+    requires callable { F.IsAlwaysCallable cut }
+    ensures { (f : ℕ → ℕ) → ((c d : Condition) → number c < 2 ^ 2 ^ places → F.post cut c d → number d ≡ f (number c)) → result ≡ fitting (simplified_from places (in_use start) (changed f (in_use rows))) }
 {
     let mut done = start;
     for i in 0..rows.len() {
         let row = rows.row(i);
-        done = with_pair(done, cut_pair(row, place, how))?;
+        let condition = cut(row.condition);
+        let new = Pair {
+            value: row.value,
+            condition,
+        };
+        done = with_pair(done, new)?;
     }
     Some(done)
 }
@@ -70,7 +51,7 @@ impl Polyvalue {
     pub fn reduce(self, place: Place, outcome: bool) -> Polyvalue
         ensures { result ≡ packed (reduce places place.0 outcome (in_use self)) }
     {
-        join_rows(Polyvalue::nothing(), self, place, Cut::Reduced(outcome)).unwrap()
+        join_rows(Polyvalue::nothing(), self, |c| c.reduce(place, outcome)).unwrap()
     }
 
     // One polyvalue where the place is completed, another where it is aborted; the latter, where
@@ -78,8 +59,10 @@ impl Polyvalue {
     pub fn select(place: Place, done: Polyvalue, gone: Polyvalue) -> Result<Polyvalue, NinthValue>
         ensures { result ≡ fitted gone (select places place.0 (in_use done) (in_use gone)) }
     {
-        let first = join_rows(Polyvalue::nothing(), done, place, Cut::Completed).unwrap();
-        join_rows(first, gone, place, Cut::Aborted).ok_or(NinthValue(gone))
+        let completed = |c| Condition::select(place, c, Condition::EMPTY);
+        let aborted = |c| Condition::select(place, Condition::EMPTY, c);
+        let first = join_rows(Polyvalue::nothing(), done, completed).unwrap();
+        join_rows(first, gone, aborted).ok_or(NinthValue(gone))
     }
 
     // Whether one of its conditions depends on the place.

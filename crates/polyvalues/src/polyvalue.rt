@@ -18,6 +18,7 @@ pub struct Pair {
 
 // The first `count` rows count; the rows past them are zero. A row is a value and the condition at
 // the same index: in arrays of their own they need no padding, and rows of zeros are told at once.
+// kept: two arrays, docs/DECISIONS.md: as pairs a polyvalue is 136 bytes and not 88, and books slower.
 #[derive(Clone, Copy, Debug, PartialEq, Eq)]
 pub struct Polyvalue {
     pub count: usize,

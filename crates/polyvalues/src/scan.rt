@@ -29,6 +29,7 @@ pub fn value_under(pairs: &[Pair], assignment: usize) -> Option<i16>
 
 impl Polyvalue {
     // The same of its own pairs. Code that has a polyvalue calls this one.
+    // kept: no plainer as one: a polyvalue has no pairs to lend (docs/DECISIONS.md), 01 asks for a slice.
     pub fn value_under(self, assignment: usize) -> Option<i16>
         ensures { result ≡ asked places (in_use self) assignment }
     {

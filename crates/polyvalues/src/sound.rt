@@ -54,6 +54,7 @@ impl Polyvalue {
     }
 
     // Whether it is the polyvalue of no pairs, all its rows zero.
+    // kept: by hand, docs/DECISIONS.md: without a branch for each row, which == and `is_tidy` have.
     pub fn is_nothing(self) -> bool
         ensures { result ≡ (eqb self.count 0 && each blank (rows_of self)) }
     {

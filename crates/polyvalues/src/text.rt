@@ -35,6 +35,7 @@ pub fn value_len(v: i16) -> usize
 }
 
 // Puts one byte.
+// kept: lengths beside the texts that are put: `text_len` and `value_len` are promised of their own.
 fn put_byte(buf: &mut [u8], at: usize, b: u8) -> usize
     requires { at + 1 ≤ length buf.old }
     ensures { Put buf.old buf.new at result (b ∷ []) }

@@ -1,13 +1,13 @@
 -- What playing an event gives, once its line is put.
 use mathlib.Core.Path.{◌≡◌, refl, sym, ap, ◌∙◌}
 use mathlib.Core.List.{List, [], ◌∷◌, ◌++◌}
-use Prim.Native.Nat.{ℕ, ◌≤◌, ◌<◌}
+use Prim.Native.Nat.{ℕ, ◌≤◌}
 use native.Mathlib.Omega.{arith}
 use lib.ListN.{length, replicate}
-use borrow.Author.Tests.{le-leb, lt-leb}
-use Rattle.conditions.specs.Text.{bytes}
-use Rattle.conditions.specs.Written.{no_room, Put}
+use borrow.Author.Tests.{le-leb}
 use Rattle.std.specs.Prelude.{Ok, Err}
+use Rattle.conditions.specs.Text.{bytes}
+use Rattle.conditions.specs.Written.{Put}
 use Rattle.book.specs.declared.Refusal.{Refusal}
 use Rattle.book.specs.declared.Book.{Book}
 use Rattle.book.specs.Answers.{Answer}
@@ -16,7 +16,8 @@ use Rattle.sheet.specs.declared.events.Event.{Event}
 use Rattle.sheet.specs.declared.playing.Played.{Played}
 use Rattle.sheet.specs.Lines.{event_line, lent_room, longest_line, line_answer, line_written}
 use Rattle.sheet.specs.Play.{EventResult, of_show, event_result, result_line, played, played_buffer}
-use Rattle.sheet.specs.Plays.{head, Plays}
+use Rattle.sheet.specs.declared.lines.Line.{Line}
+use Rattle.sheet.specs.Plays.{head, Plays, Puts}
 use Rattle.sheet.proofs.Writing.{line-written, shown-line, refused-line}
 
 -- ---- a line in a buffer that has room for it
@@ -27,6 +28,11 @@ plays x position {l} {m} {end} p h =
     let w = line-written p (omega (arith, p.ends)) in
     let ends = w.0 in
     record { result = λ k. record { written = Ok (ends k); book = x.book }; buffer = w.1 }
+
+-- the same of a line that was put from its buffer's start on
+pub line_plays : (x : EventResult) (position : ℕ) {a b : Line} → a.end ≡ 0 → Puts a b (result_line position x) → b.end ≤ length a.buf.now
+    → Plays x position a.buf.now (record { written = Ok b.end; book = x.book }) b.buf.now
+line_plays x position start p h = plays x position (rw start at p.put) h
 
 -- show's line
 module _ (w : ℕ) (b : Book) (i position : ℕ) where
@@ -49,11 +55,6 @@ module _ (w : ℕ) (b : Book) (i position : ℕ) where
 -- ---- the call
 
 module _ (w : ℕ) (b : Book) (s : List ℕ) (e : Event) (position : ℕ) (l : List ℕ) where
-  pub too_short : length l < longest_line
-      → (record { written = Err no_room; book = b } ≡ played w b s e position l) × (l ≡ played_buffer w b s e position l)
-  unfolding played played_buffer line_answer line_written
-  too_short h = let short = lt-leb longest_line (length l) h in (rw short, rw short)
-
   pub was-played : longest_line ≤ length l → {x : EventResult} {r : Played} {m : List ℕ} → Plays x position l r m → x ≡ event_result w b s e
       → (r ≡ played w b s e position l) × (m ≡ played_buffer w b s e position l)
   unfolding played played_buffer line_answer line_written

@@ -10,21 +10,10 @@ use lib.IntN.{ℤ}
 use lib.ListN.{length, get_or, take, drop, length-drop, drop_of_length-le}
 use lib.Seq.{drop-cons, drop-drop}
 use borrow.Author.Tests.{le-leb, lt-leb}
-use Rattle.std.specs.Prelude.{Result, Ok, Err}
 use Rattle.conditions.proofs.Laws.Below.{by_cases}
 use Rattle.polyvalues.specs.Values.{in_range, signed}
 use Rattle.sheet.specs.Readers.{Read, wrong, right, and_then, byte, word, part, end, any}
-use Rattle.sheet.specs.declared.events.Event.{Event}
-use Rattle.sheet.specs.declared.readers.Read.{Read as Found}
-use Rattle.sheet.specs.declared.readers.Wrong.{Wrong}
-use Rattle.sheet.specs.Events.{answered}
 use Rattle.sheet.specs.Sections.{code, value}
-use Rattle.sheet.specs.Told.{told}
-
--- what is told of an event is what the call answers
-pub answered_told : (s : List ℕ) (r : Result (Found Event) Wrong) → answered (told s r) ≡ r
-answered_told s (Ok x) = refl
-answered_told s (Err e) = refl
 
 -- ---- a byte
 

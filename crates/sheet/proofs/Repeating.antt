@@ -6,7 +6,7 @@ use native.Mathlib.Omega.{arith}
 use lib.ListN.{length, take, set}
 use lib.Seq.{take-append_seam}
 use Rattle.std.proofs.lemmas.List.{take_all, take_more_set}
-use Rattle.sheet.specs.Readers.{Read, wrong, right, and_then, repeat, one_more}
+use Rattle.sheet.specs.Readers.{Read, right, and_then, repeat, one_more}
 
 module _ {A : Type 0} (reader : A → ℕ → List ℕ → Read A) (n i : ℕ) (x : A) (at : ℕ) (l : List ℕ) where
   pub repeat_more : i < n → repeat (n - i) reader x at l ≡ and_then (reader x at l) (repeat (n - (i + 1)) reader)
@@ -19,10 +19,6 @@ module _ {A : Type 0} (reader : A → ℕ → List ℕ → Read A) (n i : ℕ) (
 
 -- one more each time, where what was read stands in the first rows
 module _ {A : Type 0} (reader : ℕ → List ℕ → Read A) (n i : ℕ) (rows : List A) (at : ℕ) (l : List ℕ) where
-  pub rows_wrong : i < n → {place : ℕ} → reader at l ≡ wrong place → repeat (n - i) (one_more reader) (take i rows) at l ≡ wrong place
-  unfolding one_more
-  rows_wrong h e = rw (repeat_more (one_more reader) n i (take i rows) at l h, e)
-
   pub rows_more : i < n → i < length rows → {x : A} {next : ℕ} {rest : List ℕ} → reader at l ≡ right x next rest
       → repeat (n - i) (one_more reader) (take i rows) at l ≡ repeat (n - (i + 1)) (one_more reader) (take (i + 1) (set rows i x)) next rest
   unfolding one_more

@@ -1,37 +1,62 @@
 -- Lines that are put into a buffer, byte by byte.
-use mathlib.Core.Path.{◌≡◌, sym, ap, ◌∙◌}
+use mathlib.Core.Path.{◌≡◌, refl, sym, ap, ◌∙◌}
 use mathlib.Core.Bool.{true, false}
 use mathlib.Core.List.{List, [], ◌∷◌, ◌++◌, append-nil, append_assoc}
-use Prim.Native.Nat.{ℕ, ◌+◌, ◌-◌, ◌^◌, ◌≤◌, ◌<◌}
+use lib.Dec.{leb}
+use Prim.Native.Nat.{ℕ, min, ◌+◌, ◌-◌, ◌^◌, ◌≤◌, ◌<◌}
 use Prim.Native.Char.{code}
 use native.Mathlib.Omega.{arith}
 use lib.ListN.{length, take, drop, length-append, length-drop, drop_of_length-le}
 use lib.Seq.{take-nil, take_all, sets, sets-eq, drop-append-add, drop-drop}
-use borrow.Author.Tests.{le-leb, lt-leb}
+use borrow.Author.Tests.{le-leb, leb-true, leb-false}
+use borrow.Rule.Slice.PartMut.{put_mid}
 use Rattle.conditions.proofs.Laws.Below.{by_cases}
-use Rattle.std.specs.Prelude.{Ok, Err}
-use Rattle.conditions.specs.Text.{bytes, decimal, prefixed, joined}
-use Rattle.conditions.specs.Written.{no_room, written, Put}
-use Rattle.conditions.proofs.Laws.Text.{decimal-some, decimal-le, decimal-one, prefixed-snoc}
-use Rattle.conditions.proofs.Putting.{put-length, put_written}
 use Rattle.std.specs.Prelude.{Ok}
+use Rattle.conditions.specs.Text.{bytes, decimal, prefixed, joined}
+use Rattle.conditions.specs.Written.{written, Put}
+use Rattle.conditions.proofs.Laws.Text.{decimal-some, decimal-le, decimal-one, prefixed-snoc}
+use Rattle.conditions.proofs.Putting.{put-length, put_then, put_written}
 use Rattle.book.specs.Answers.{Answer, answer_number, accepted}
 use Rattle.sheet.specs.Lines.{line, event_line, refusal_line, lent_room, longest_line, line_answer, line_written}
-use Rattle.sheet.specs.Plays.{field, head}
+use Rattle.sheet.specs.declared.lines.Line.{Line}
+use Rattle.sheet.specs.Plays.{field, head, Puts}
 
 -- ---- the bytes from a place up to another
 
-module _ (s : List ℕ) (from to : ℕ) where
-  pub none_between : to ≤ from → [] ≡ take (to - from) (drop from s)
-  none_between h = let e : to - from ≡ 0 = omega arith in rw e
+module _ (s : List ℕ) (from to : ℕ) {start end : ℕ} (first : start ≡ min from end) (last : end ≡ min to (length s)) where
+  none_between : end ≤ from → take (end - start) (drop start s) ≡ take (to - from) (drop from s)
+  none_between h =
+      let none : end - start ≡ 0 = omega arith in
+      rw none (by_cases (leb to from) (λ t. let h : to ≤ from = leb-true to from t in let e : to - from ≡ 0 = omega arith in rw e)
+      (λ t. let h : from < to = leb-false to from t in let past : length s ≤ from = omega arith in rw (drop_of_length-le s past) (sym (take-nil (to - from)))))
 
-  pub none-behind : length s ≤ from → [] ≡ take (to - from) (drop from s)
-  none-behind h = rw (drop_of_length-le s h) (sym (take-nil (to - from)))
-
-  pub all-behind : length s < to → take (length s - from) (drop from s) ≡ take (to - from) (drop from s)
-  all-behind h =
+  some_between : from < end → take (end - start) (drop start s) ≡ take (to - from) (drop from s)
+  some_between h =
+      let e : start ≡ from = omega arith in
+      rw e (by_cases (leb to (length s)) (λ t. let h : to ≤ length s = leb-true to (length s) t in let e : end ≡ to = omega arith in rw e)
+      (λ t. let h : length s < to = leb-false to (length s) t in let e : end ≡ length s = omega arith in
       let long : length (drop from s) ≤ to - from = rw (length-drop from s) (omega arith) in
-      take_all (length s - from) (drop from s) (rw (length-drop from s) (omega arith)) ∙ sym (take_all (to - from) (drop from s) long)
+      rw e (take_all (length s - from) (drop from s) (rw (length-drop from s) (omega arith)) ∙ sym (take_all (to - from) (drop from s) long))))
+
+  pub within : take (end - start) (drop start s) ≡ take (to - from) (drop from s)
+  within = by_cases (leb end from) (λ t. none_between (leb-true end from t)) (λ t. some_between (leb-false end from t))
+
+-- ---- texts behind what a line has
+
+module _ {a b : Line} where
+  pub puts_then : {c : Line} {s t : List ℕ} → Puts a b s → Puts b c t → Puts a c (s ++ t)
+  puts_then p q = record { put = put_then p.put q.put; lent = q.lent ∙ p.lent; long = q.long ∙ p.long }
+
+-- bytes that are copied into a part as long as they are
+pub copied : (at : ℕ) (xs t : List ℕ) {part : List ℕ} → at + length t ≤ length xs → part ≡ t → Put xs (put_mid at (at + length t - at) xs part) at (at + length t) t
+copied at xs t h e =
+    let k : at + length t - at ≡ length t = omega arith in
+    record {
+      ends = refl;
+      holds =
+          rw (e, k)
+          (ap (λ (r : List ℕ). take at xs ++ (t ++ r)) (drop-drop (length t) at xs) ∙ sym (append_assoc (take at xs) t (drop (at + length t) xs)) ∙ sym (sets-eq t xs at h));
+    }
 
 -- ---- the lines as the code puts them, field by field
 
@@ -80,10 +105,6 @@ line-written p h = (omega (arith, p.ends), put_written (omega arith) p)
 
 -- what is answered of it
 module _ (l t : List ℕ) where
-  pub line-short : length l < longest_line → (Err no_room ≡ line_answer l t) × (l ≡ line_written l t)
-  unfolding line_answer line_written
-  line-short h = let short = lt-leb longest_line (length l) h in (rw short, rw short)
-
   pub line-given : {m : List ℕ} {end : ℕ} → longest_line ≤ length l → Put l m 0 end t → end ≤ length l → (Ok end ≡ line_answer l t) × (m ≡ line_written l t)
   unfolding line_answer line_written
   line-given {m} {end} h p k =

@@ -4,7 +4,7 @@ use Rattle.std.specs.Prelude.{cond, List, ℕ, ◌*◌, eqb, drop, Result, Ok, E
 use Rattle.conditions.specs.declared.place.TransactionNumber.{TransactionNumber}
 use Rattle.sheet.specs.declared.events.Event.{Event}
 use Rattle.sheet.specs.declared.events.Event.TheVariants.{Begin, Ready, GiveUp, Complete, Abort, Hear, Show}
-use Rattle.sheet.specs.declared.readers.Read.{Read as Found}
+use Rattle.sheet.specs.declared.events.Found.{Found}
 use Rattle.sheet.specs.declared.readers.Wrong.{Wrong}
 use Rattle.sheet.specs.Readers.{Read, wrong, right, and_then, byte, word, part, any, between}
 
@@ -39,10 +39,10 @@ unfoldable pub event : ℕ → List ℕ → Read Event
 event at s = and_then (byte (between 1 7) at s) fields
 
 -- as the code answers it: the event and the place behind it, or the place where there is none
-abbrev pub answered : Read Event → Result (Found Event) Wrong
+abbrev pub answered : Read Event → Result Found Wrong
 answered (wrong place) = Err (record { 0 = place })
-answered (right e next s) = Ok (record { value = e; next = next })
+answered (right e next s) = Ok (record { event = e; next = next })
 
 -- the call: what stands at a place of the sheet s
-unfoldable pub event_at : List ℕ → ℕ → Result (Found Event) Wrong
+unfoldable pub event_at : List ℕ → ℕ → Result Found Wrong
 event_at s at = answered (event at (drop at s))

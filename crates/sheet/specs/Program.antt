@@ -5,7 +5,7 @@ use Rattle.std.specs.Prelude.{◌≡◌, cond, List, [], ◌∷◌, ◌++◌, �
 use Rattle.book.specs.declared.Book.{Book}
 use Rattle.book.specs.Answers.{accepted}
 use Rattle.sheet.specs.declared.events.Event.{Event}
-use Rattle.sheet.specs.declared.readers.Read.{Read as Found}
+use Rattle.sheet.specs.declared.events.Found.{Found}
 use Rattle.sheet.specs.declared.readers.Wrong.{Wrong}
 use Rattle.sheet.specs.declared.opening.Opened.{Opened}
 use Rattle.sheet.specs.Events.{event_at}
@@ -15,8 +15,8 @@ use Rattle.sheet.specs.Lines.{refusal_line, end_line}
 use Rattle.sheet.specs.Play.{EventResult, event_result, result_line}
 
 -- where there is an event, what is printed from it on; where there is none, nothing more: `AsRead` shows that a sheet that opened has all that it counts
-abbrev pub from_event : Result (Found Event) Wrong → (Event → ℕ → List ℕ) → List ℕ
-from_event (Ok x) print = print x.value x.next
+abbrev pub from_event : Result Found Wrong → (Event → ℕ → List ℕ) → List ℕ
+from_event (Ok x) print = print x.event x.next
 from_event (Err e) print = []
 
 -- n events more of the sheet s and the last line, where the book is b and the first of them has this position and stands at this place
@@ -34,7 +34,7 @@ by_calls w s =
 -- these events stand in the sheet s one behind the other, the first at this place
 abbrev pub Stand : List ℕ → ℕ → List Event → Type 0
 Stand s at [] = Unit {0}
-Stand s at (e ∷ es) = (next : ℕ) × (event_at s at ≡ Ok (record { value = e; next = next })) × Stand s next es
+Stand s at (e ∷ es) = (next : ℕ) × (event_at s at ≡ Ok (record { event = e; next = next })) × Stand s next es
 
 -- the events that reading a sheet gave are as many as it counts, and what event_at finds from the first on: none of them is wrong
 pub record AsRead (s : List ℕ) (x : Events) : Type 0 where

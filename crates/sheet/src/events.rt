@@ -1,9 +1,10 @@
 // The events of a sheet, each by the place where it stands.
 ghost use Rattle.std.specs.Prelude.{◌≡◌, drop};
-ghost use Rattle.sheet.specs.Events.{program, of_item, fields, event, event_at};
-ghost use Rattle.sheet.specs.Told.{told};
+ghost use Rattle.sheet.specs.Events.{program, fields, event, event_at};
+ghost use Rattle.sheet.specs.Told.{Reads, ReadsAs, told_event};
+ghost use Rattle.sheet.specs.Readers.{word, any};
 
-use crate::readers::{Read, Wrong, byte, byte_between, part, word};
+use crate::readers::{Reader, Wrong};
 use conditions::TransactionNumber;
 
 // An event. The bytes of a begin's program stand in the sheet from `from` up to `to`.
@@ -36,79 +37,81 @@ pub enum Event {
     },
 }
 
-// A begin: the count of its program's steps, and their bytes.
-#[tactic(auto, unfolding(crate::specs::Events::program))]
-fn program(sheet: &[u8], at: usize) -> Result<Read<Event>, Wrong>
-    ensures { program at (drop at sheet.now) ≡ told sheet.now result }
-{
-    let steps = byte(sheet, at)?;
-    let from = steps.next;
-    let to = part(sheet, from, 4 * usize::from(steps.value))?.next;
-    Ok(Read {
-        value: Event::Begin { from, to },
-        next: to,
-    })
+// An event that was found, and the place behind it.
+#[derive(Clone, Copy)]
+pub struct Found {
+    pub event: Event,
+    pub next: usize,
 }
 
-// Show: an item.
-#[tactic(auto, unfolding(crate::specs::Events::of_item))]
-fn of_item(sheet: &[u8], at: usize) -> Result<Read<Event>, Wrong>
-    ensures { of_item at (drop at sheet.now) ≡ told sheet.now result }
-{
-    let Read { value: item, next } = byte(sheet, at)?;
-    Ok(Read {
-        value: Event::Show { item },
-        next,
-    })
-}
+impl Reader<'_> {
+    // A begin: the count of its program's steps, and their bytes.
+    #[tactic(auto, unfolding(crate::specs::Events::program))]
+    fn program(&mut self) -> Result<Event, Wrong>
+        ensures { Reads program self.old self.new result }
+    {
+        let steps = self.byte()?;
+        let from = self.at;
+        self.part(4 * usize::from(steps))?;
+        Ok(Event::Begin { from, to: self.at })
+    }
 
-// What stands behind an event's kind: but for begin and show a transaction number, and but for
-// complete and abort a district behind it.
-#[tactic(auto, unfolding(crate::specs::Events::fields, crate::specs::Events::at_district, crate::specs::Events::on_number))]
-fn fields(sheet: &[u8], at: usize, kind: usize) -> Result<Read<Event>, Wrong>
-    ensures { fields kind at (drop at sheet.now) ≡ told sheet.now result }
-{
-    if kind == 1 {
-        return program(sheet, at);
+    // A transaction number.
+    fn number(&mut self) -> Result<TransactionNumber, Wrong>
+        ensures { ReadsAs (λ n. n.0) (word any) self.old self.new result }
+    {
+        Ok(TransactionNumber(self.word()?))
     }
-    if kind == 7 {
-        return of_item(sheet, at);
+
+    // What stands behind an event's kind.
+    #[tactic(auto, unfolding(crate::specs::Events::fields, crate::specs::Events::at_district, crate::specs::Events::on_number, crate::specs::Events::of_item))]
+    fn fields(&mut self, kind: usize) -> Result<Event, Wrong>
+        ensures { Reads (fields kind) self.old self.new result }
+    {
+        match kind {
+            1 => self.program(),
+            2 => Ok(Event::Ready {
+                number: self.number()?,
+                district: self.byte()?,
+            }),
+            3 => Ok(Event::GiveUp {
+                number: self.number()?,
+                district: self.byte()?,
+            }),
+            4 => Ok(Event::Complete {
+                number: self.number()?,
+            }),
+            5 => Ok(Event::Abort {
+                number: self.number()?,
+            }),
+            7 => Ok(Event::Show { item: self.byte()? }),
+            _ => Ok(Event::Hear {
+                number: self.number()?,
+                district: self.byte()?,
+            }),
+        }
     }
-    let Read {
-        value: serial,
-        next,
-    } = word(sheet, at)?;
-    let number = TransactionNumber(serial);
-    if kind == 4 {
-        return Ok(Read {
-            value: Event::Complete { number },
-            next,
-        });
+
+    // An event.
+    #[tactic(auto, unfolding(crate::specs::Events::event))]
+    pub(crate) fn event(&mut self) -> Result<Event, Wrong>
+        ensures { Reads event self.old self.new result }
+    {
+        let kind = self.byte_between(1, 7)?;
+        self.fields(kind)
     }
-    if kind == 5 {
-        return Ok(Read {
-            value: Event::Abort { number },
-            next,
-        });
-    }
-    let Read {
-        value: district,
-        next,
-    } = byte(sheet, next)?;
-    let value = match kind {
-        2 => Event::Ready { number, district },
-        3 => Event::GiveUp { number, district },
-        _ => Event::Hear { number, district },
-    };
-    Ok(Read { value, next })
 }
 
 // What stands at a place of the sheet: an event, and the place behind it.
-#[tactic(auto, using(crate::proofs::Reading::answered_told), unfolding(crate::specs::Events::event, crate::specs::Events::event_at))]
-pub fn event_at(sheet: &[u8], at: usize) -> Result<Read<Event>, Wrong>
+#[tactic(auto, unfolding(crate::specs::Events::event_at))]
+pub fn event_at(sheet: &[u8], at: usize) -> Result<Found, Wrong>
     ensures value { result ≡ event_at sheet.now at }
-    ensures sheet_value { event at (drop at sheet.now) ≡ told sheet.now result }
+    ensures sheet_value { event at (drop at sheet.now) ≡ told_event sheet.now result }
 {
-    let kind = byte_between(sheet, at, 1, 7)?;
-    fields(sheet, kind.next, kind.value)
+    let mut reader = Reader { sheet, at };
+    let event = reader.event()?;
+    Ok(Found {
+        event,
+        next: reader.at,
+    })
 }

@@ -11,8 +11,8 @@ mod playing;
 mod readers;
 mod sections;
 
-pub use events::{Event, event_at};
+pub use events::{Event, Found, event_at};
 pub use lines::{LONGEST_LINE, write_refusal};
 pub use opening::{MOST_BYTES, Opened, open};
 pub use playing::{Played, play};
-pub use readers::{Read, Wrong};
+pub use readers::Wrong;

@@ -3,8 +3,8 @@ ghost use Rattle.std.specs.Prelude.{◌≡◌};
 ghost use Rattle.conditions.specs.Places.{places};
 ghost use Rattle.sheet.specs.Open.{refused, open_sheet};
 
-use crate::readers::{Read, Wrong};
-use crate::sections::whole;
+use crate::readers::Wrong;
+use crate::sections::{Sheet, whole};
 use book::{Answer, Book, Refusal, opened, zero_book};
 
 // How many bytes a sheet may have.
@@ -12,6 +12,7 @@ pub const MOST_BYTES: usize = 32768;
 
 // Whether the sheet opened its book, and the place that 13 or 14 gives; the book; where the first
 // event stands, and how many there are. Refused, the book is all zero, and so are the numbers.
+// kept: no Result, since document 01 gives a refused call the all-zero book (`open_sheet`, law `refused-zero`).
 #[derive(Clone, Copy)]
 pub struct Opened {
     pub answer: Answer,
@@ -44,12 +45,18 @@ pub fn open(sheet: &[u8]) -> Opened
         return refused(Refusal::TooLong, 0);
     }
     match whole(sheet) {
-        Ok(Read { value, .. }) => Opened {
+        Ok(
+            Sheet {
+                districts,
+                items,
+                events,
+            },
+        ) => Opened {
             answer: Ok(()),
             place: 0,
-            book: opened(value.districts, value.items),
-            first: value.events.first,
-            count: value.events.count,
+            book: opened(districts, items),
+            first: events.first,
+            count: events.count,
         },
         Err(Wrong(place)) => refused(Refusal::Malformed, place),
     }

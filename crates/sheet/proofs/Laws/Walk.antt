@@ -25,7 +25,7 @@ use Rattle.sheet.proofs.Laws.Places.{leaves_word, leaves-event, leaves-districts
 
 module _ (s : List ℕ) where
   -- what is read at a place is what the call finds there
-  event-found : (at : ℕ) {e : Event} {next : ℕ} {rest : List ℕ} → event at (drop at s) ≡ right e next rest → event_at s at ≡ Ok (record { value = e; next = next })
+  event-found : (at : ℕ) {e : Event} {next : ℕ} {rest : List ℕ} → event at (drop at s) ≡ right e next rest → event_at s at ≡ Ok (record { event = e; next = next })
   unfolding event_at
   event-found at q = ap answered q
 
@@ -45,7 +45,7 @@ module _ (s : List ℕ) where
         read.0 ∷ rest.0,
         rest.1 ∙ ap (λ (l : List Event). l ++ rest.0) (sym same) ∙ append_assoc got (read.0 ∷ []) rest.0,
         ap suc rest.2,
-        (one.1, event-found at read.3 ∙ ap (λ (n : ℕ). Ok (record { value = read.0; next = n })) behind, rest.3),
+        (one.1, event-found at (rw behind at read.3), rest.3),
       )
 
   events-found : (at : ℕ) {x : Events} {next : ℕ} {rest : List ℕ} → events at (drop at s) ≡ right x next rest → AsRead s x

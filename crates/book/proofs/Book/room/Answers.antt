@@ -18,7 +18,8 @@ use Rattle.book.specs.States.{steps_of}
 use Rattle.book.proofs.Laws.Sound.{test-sound}
 use Rattle.book.proofs.Loops.{gathered_none, gathered-more}
 use Rattle.book.proofs.Touching.{all-touched, touched-busy}
-use Rattle.std.specs.Prelude.{Ok}
+use Rattle.std.specs.Prelude.{Ok, None}
+use Rattle.book.proofs.Lists.{found_some, found_none}
 use Rattle.book.proofs.Book.room.Goals as goal
 
 -- the loop has gone through all items
@@ -48,22 +49,25 @@ returns-then-some_busy c =
     let last = all_items c.args.self.now c.requires (search rules) c.loop-i.i (omega arith) (omega arith) in
     rw (sym (touched-busy c.args.self.now (steps_of c.args.p) c.loop-i.set last c.loop-i.invariant places c.requires c.some_busy.ensures) ∙ c.if-some_busy.true)
 
-pub returns-then-q-ge-PLACES : goal.returns-then-q-ge-PLACES
+pub returns-in_default : goal.returns-in_default
 unfolding first_of free_place
-returns-then-q-ge-PLACES c =
+returns-in_default c =
     let last = all_items c.args.self.now c.requires (search rules) c.loop-i.i (omega arith) (omega arith) in
-    rw (sym (touched-busy c.args.self.now (steps_of c.args.p) c.loop-i.set last c.loop-i.invariant places c.requires c.some_busy.ensures) ∙ c.if-some_busy.false, ← c.free_place-q.ensures, le-ltb _ _ c.if-q-ge-PLACES.true)
+    let none : c.free_place.result ≡ None = search rules in
+    rw (sym (touched-busy c.args.self.now (steps_of c.args.p) c.loop-i.set last c.loop-i.invariant places c.requires c.some_busy.ensures) ∙ c.if-some_busy.false, le-ltb _ _ (found_none places (free_place places c.args.self.now) (sym c.free_place.ensures ∙ none)))
 
 pub returns-then-self-ge-NUMBERS : goal.returns-then-self-ge-NUMBERS
 unfolding first_of free_place
 returns-then-self-ge-NUMBERS c =
+    let at = found_some places (free_place places c.args.self.now) (sym c.free_place.ensures ∙ c.in-Some.is) in
     let last = all_items c.args.self.now c.requires (search rules) c.loop-i.i (omega arith) (omega arith) in
-    rw (sym (touched-busy c.args.self.now (steps_of c.args.p) c.loop-i.set last c.loop-i.invariant places c.requires c.some_busy.ensures) ∙ c.if-some_busy.false, ← c.free_place-q.ensures, lt-ltb _ _ c.if-q-ge-PLACES.false, le-ltb _ _ c.if-self-ge-NUMBERS.true)
+    rw (sym (touched-busy c.args.self.now (steps_of c.args.p) c.loop-i.set last c.loop-i.invariant places c.requires c.some_busy.ensures) ∙ c.if-some_busy.false, lt-ltb _ _ at.1, le-ltb _ _ c.if-self-ge-NUMBERS.true)
 
 pub returns : goal.returns
 unfolding first_of free_place
 returns c =
+    let at = found_some places (free_place places c.args.self.now) (sym c.free_place.ensures ∙ c.in-Some.is) in
     let last = all_items c.args.self.now c.requires (search rules) c.loop-i.i (omega arith) (omega arith) in
     let touched = all-touched c.args.self.now (steps_of c.args.p) c.loop-i.set last c.loop-i.invariant in
-    rw (sym (touched-busy c.args.self.now (steps_of c.args.p) c.loop-i.set last c.loop-i.invariant places c.requires c.some_busy.ensures) ∙ c.if-some_busy.false, ← c.free_place-q.ensures, lt-ltb _ _ c.if-q-ge-PLACES.false, lt-ltb _ _ c.if-self-ge-NUMBERS.false)
-    (λ k. Ok (record { place = c.free_place-q.result; districts = touched k }))
+    rw (sym (touched-busy c.args.self.now (steps_of c.args.p) c.loop-i.set last c.loop-i.invariant places c.requires c.some_busy.ensures) ∙ c.if-some_busy.false, lt-ltb _ _ at.1, lt-ltb _ _ c.if-self-ge-NUMBERS.false)
+    (λ k. Ok (record { place = sym at.0 k; districts = touched k }))

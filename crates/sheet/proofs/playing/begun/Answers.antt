@@ -1,15 +1,28 @@
--- The plain line where begin is refused, else one with number and grant.
+-- A number and a grant where begin is accepted.
+use mathlib.Core.Path.{sym, ◌∙◌}
 use native.Mathlib.Omega.{arith}
-use mathlib.Core.Path.{ap}
-use Rattle.conditions.proofs.Putting.{put_then}
-use Rattle.book.specs.Answers.{accepted}
 use Rattle.sheet.specs.Play.{of_begun}
-use Rattle.sheet.proofs.Writing.{refused-line, begun-line}
-use Rattle.sheet.proofs.Plays.{plays}
+use Rattle.sheet.proofs.Writing.{puts_then, plain-line, refused-line, begun-line}
+use Rattle.sheet.proofs.Plays.{line_plays}
+use Rattle.sheet.proofs.playing.begun.Goals.{then-is_ok, else-is_ok}
+use Rattle.std.proofs.Common.{rules}
 use Rattle.sheet.proofs.playing.begun.Goals as goal
 
-pub returns-in-Err : goal.returns-in-Err
-returns-in-Err c = plays (of_begun c.args.x) c.args.position (rw (refused-line _ _ (ap accepted c.in-Err.is) (of_begun c.args.x).more) at c.put_plain-end.ensures.put) (omega (arith, c.requires, c.put_plain-end.ensures.upper_bound))
-
-pub returns-in-Ok : goal.returns-in-Ok
-returns-in-Ok c = plays (of_begun c.args.x) c.args.position (rw (begun-line _ _ (ap accepted c.in-Ok.is) _ _) at (put_then (put_then (put_then c.put_head-head.ensures.put c.put_field-number.ensures.put) c.put_field-grant.ensures.put) c.put_byte-end.ensures)) (omega (arith, c.requires, c.put_head-head.ensures.upper_bound, c.put_field-number.ensures.upper_bound, c.put_field-grant.ensures.upper_bound, c.put_byte-end.ensures.ends))
+pub returns : goal.returns
+returns c = record {
+  plays = elim c.if-is_ok.branch [
+    | then-is_ok w ↦
+        let number = rw w.from.ensures at w.field.ensures.put in
+        let grant = rw w.from-then-is_ok.ensures at w.field-then-is_ok.ensures.put in
+        let end = rw w.line-is at c.byte.ensures in
+        line_plays (of_begun c.args.x) c.args.position c.requires.start
+        (rw (begun-line _ _ (sym c.is_ok.ensures.value ∙ w.if-is_ok.true) _ _) at (puts_then (puts_then (puts_then c.head.ensures.put number) grant) end))
+        (omega (arith, c.requires.room, c.head.ensures.upper_bound, w.field.ensures.upper_bound, w.field-then-is_ok.ensures.upper_bound, end.put.ends))
+    | else-is_ok w ↦
+        let end = rw w.line-is at c.byte.ensures in
+        line_plays (of_begun c.args.x) c.args.position c.requires.start
+        (rw (plain-line _ _, refused-line _ _ (sym c.is_ok.ensures.value ∙ w.if-is_ok.false) (of_begun c.args.x).more) at (puts_then c.head.ensures.put end))
+        (omega (arith, c.requires.room, c.head.ensures.upper_bound, end.put.ends))
+  ];
+  lent = search rules;
+}

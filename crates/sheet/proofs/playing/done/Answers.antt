@@ -1,8 +1,12 @@
 -- The plain line.
 use native.Mathlib.Omega.{arith}
 use Rattle.sheet.specs.Play.{of_done}
-use Rattle.sheet.proofs.Plays.{plays}
+use Rattle.sheet.proofs.Plays.{line_plays}
+use Rattle.std.proofs.Common.{rules}
 use Rattle.sheet.proofs.playing.done.Goals as goal
 
 pub returns : goal.returns
-returns c = plays (of_done c.args.x) c.args.position c.put_plain-end.ensures.put (omega (arith, c.requires, c.put_plain-end.ensures.upper_bound))
+returns c = record {
+  plays = line_plays (of_done c.args.x) c.args.position c.requires.start c.plain.ensures.put (omega (arith, c.requires.room, c.plain.ensures.upper_bound));
+  lent = search rules;
+}
