@@ -1,8 +1,9 @@
 // Forgetting, at the end of each accepted event.
-ghost use Rattle.std.specs.Prelude.{◌≡◌, ◌<◌, ◌≤◌};
+ghost use Rattle.std.specs.Prelude.{◌≡◌, ℕ, ◌<◌, ◌≤◌};
 ghost use Rattle.conditions.specs.Places.{places as place_count};
 ghost use Rattle.book.specs.declared.Book.{Book};
-ghost use Rattle.book.specs.Book.{most_districts, most_items};
+ghost use Rattle.book.specs.Book.{most_districts, most_items, some_depends};
+ghost use Rattle.conditions.specs.Sets.{member};
 ghost use Rattle.book.specs.Rows.{rows};
 ghost use Rattle.book.specs.Forget.{kept, remembered, forget};
 ghost use Rattle.book.specs.Tables.{TablesOf};
@@ -11,6 +12,22 @@ use crate::sets::has;
 use crate::tables::{FREE, Tables, places_of, some_on};
 use crate::{Book, Open};
 use conditions::PLACES;
+
+impl Tables {
+    // Those of a book whose items depend on these places.
+    pub(crate) fn of(b: &Book, depended: u8) -> Tables
+        requires { b.now.districts ≤ most_districts }
+        ensures { ((q : ℕ) → q < place_count → member depended q ≡ some_depends place_count b.now q) → TablesOf place_count b.now result }
+    {
+        Tables {
+            last: b.last,
+            districts: b.districts,
+            records: b.records,
+            open: b.open,
+            depended,
+        }
+    }
+}
 
 // Whether the transaction at a place stays: it is not decided, or has a district on it or a polyvalue
 // that depends on it.
@@ -52,12 +69,6 @@ pub(crate) fn forget(mut b: Book) -> Book
     for x in &b.items[..b.count] {
         depended |= places_of(*x);
     }
-    b.open = remembered_places(Tables {
-        last: b.last,
-        districts: b.districts,
-        records: b.records,
-        open: b.open,
-        depended,
-    });
+    b.open = remembered_places(Tables::of(&b, depended));
     b
 }

@@ -36,13 +36,6 @@ impl Book {
         if !zero_rows(&self.items[self.count..]) {
             return false;
         }
-        let t = Tables {
-            last: self.last,
-            districts: self.districts,
-            records: self.records,
-            open: self.open,
-            depended,
-        };
-        sound_districts(self) && sound_places(t)
+        sound_districts(self) && sound_places(Tables::of(self, depended))
     }
 }

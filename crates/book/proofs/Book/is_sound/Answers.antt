@@ -15,7 +15,6 @@ use Rattle.book.specs.declared.Book.{Book}
 use Rattle.book.specs.declared.Item.{Item}
 use Rattle.book.specs.Book.{most_items, no_item, void_item, item_at, item_depends}
 use Rattle.book.specs.SoundTest.{same_item, sound_row, sound_item, sound}
-use Rattle.book.specs.Tables.{TablesOf}
 use Rattle.book.proofs.Depended.{depended-more, all-depended}
 use Rattle.book.proofs.Lists.{to_the_end}
 use Rattle.book.proofs.Loops.{gathered_none}
@@ -73,7 +72,7 @@ returns-then-sound_districts c =
     let zeros : c.zero_rows.result ≡ list_all (λ x. same_item x no_item) (drop c.args.self.now.count c.args.self.now.items) =
     c.zero_rows.ensures ∙ ap (list_all (λ x. same_item x no_item)) (to_the_end c.args.self.now.count most_items c.args.self.now.items long) in
     let items = sym (items-past width c.args.self.now long few.1 (rw last at c.loop-x.invariant.0)) ∙ sym zeros in
-    let tables : TablesOf width c.args.self.now _ = record { last = refl; districts = refl; records = refl; places = refl; depended = all-depended width c.args.self.now c.loop-x.depended last c.loop-x.invariant.1 } in
+    let tables = c.of.ensures (all-depended width c.args.self.now c.loop-x.depended last c.loop-x.invariant.1) in
     c.sound_places.ensures c.args.self.now tables
     ∙ rw (
       sym c.good_counts.ensures ∙ c.if-not-good_counts.false,

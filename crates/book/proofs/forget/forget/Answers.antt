@@ -1,4 +1,4 @@
-use mathlib.Core.Path.{◌≡◌, refl, ap, ◌∙◌}
+use mathlib.Core.Path.{◌≡◌, sym, ap, ◌∙◌}
 use mathlib.Core.List.{List}
 use native.Mathlib.Omega.{arith}
 use borrow.Author.Rules.{rules}
@@ -10,7 +10,8 @@ use Rattle.conditions.specs.Sets.{set_of}
 use Rattle.book.specs.declared.Item.{Item}
 use Rattle.book.specs.declared.Open.{Open}
 use Rattle.book.specs.Book.{most_items, void_item, item_depends, with_open}
-use Rattle.book.specs.Forget.{forget}
+use Rattle.book.specs.Forget.{remembered, forget}
+use Rattle.book.specs.Rows.{rows}
 use Rattle.book.proofs.Depended.{depended-more, all-depended}
 use Rattle.book.proofs.Loops.{gathered_none}
 use Rattle.book.proofs.forget.forget.Goals as goal
@@ -33,4 +34,5 @@ returns c =
     let long : length b.items ≡ most_items = search rules in
     let last : c.loop-x.x-index ≡ b.count = omega (arith, length-take b.count b.items, c.requires.1, long) in
     let depended = all-depended width b c.loop-x.depended last c.loop-x.invariant in
-    ap (λ (l : List Open). with_open b l) (c.remembered_places-b.ensures b (record { last = refl; districts = refl; records = refl; places = refl; depended = depended }))
+    let tables = c.of.ensures depended in
+    ap (λ (l : List Open). with_open b l) (c.remembered_places-b.ensures b tables ∙ ap (rows (remembered width b) width) (sym tables.places))
