@@ -14,6 +14,7 @@ fn value_under(p: Polyvalue, assignment: usize) -> fmt::Result {
     writeln!(Output, "pairs {} {assignment} {number}", p.count)
 }
 
+// Lists in which one pair applies, none or two, and numbers past the last assignment.
 pub(crate) fn lists() -> fmt::Result {
     let done = Condition::completed(Place(0));
     let mut p = Polyvalue::certain(5);

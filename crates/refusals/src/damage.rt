@@ -19,41 +19,46 @@ pub(crate) fn with_row<T: Copy, const N: usize>(rows: [T; N], i: usize, row: T) 
 
 // The book with another record of a district.
 fn with_record(b: Book, d: usize, r: Record) -> Book {
-    let mut a = b;
-    a.records = with_row(b.records, d, r);
-    a
+    Book {
+        records: with_row(b.records, d, r),
+        ..b
+    }
 }
 
 // The book with another item.
 fn with_item(b: Book, i: usize, x: Item) -> Book {
-    let mut a = b;
-    a.items = with_row(b.items, i, x);
-    a
+    Book {
+        items: with_row(b.items, i, x),
+        ..b
+    }
 }
 
 // The book with another transaction at a place.
 fn with_open(b: Book, q: usize, o: Open) -> Book {
-    let mut a = b;
-    a.open = with_row(b.open, q, o);
-    a
+    Book {
+        open: with_row(b.open, q, o),
+        ..b
+    }
+}
+
+// The book with an item changed.
+fn with_changed<F: FnOnce(Item) -> Item>(b: Book, i: usize, change: F) -> Book
+    requires { F.IsAlwaysCallable change }
+{
+    match b.items.get(i) {
+        Some(x) => with_item(b, i, change(*x)),
+        None => b,
+    }
 }
 
 // The book with another held polyvalue of an item.
-pub(crate) fn with_held(b: Book, i: usize, p: Polyvalue) -> Book {
-    let mut a = b;
-    if let Some(x) = a.items.get_mut(i) {
-        x.held = p;
-    }
-    a
+pub(crate) fn with_held(b: Book, i: usize, held: Polyvalue) -> Book {
+    with_changed(b, i, |x| Item { held, ..x })
 }
 
 // The book with another pending polyvalue of an item.
-pub(crate) fn with_pending(b: Book, i: usize, p: Polyvalue) -> Book {
-    let mut a = b;
-    if let Some(x) = a.items.get_mut(i) {
-        x.pending = p;
-    }
-    a
+pub(crate) fn with_pending(b: Book, i: usize, pending: Polyvalue) -> Book {
+    with_changed(b, i, |x| Item { pending, ..x })
 }
 
 // "1 to 8 districts, 1 to 32 items"

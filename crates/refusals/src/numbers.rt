@@ -20,6 +20,7 @@ fn begun_after(b: Book, last: u16, program: &[u8]) -> fmt::Result {
     )
 }
 
+// Asks where the last number is not yet, and where it is given.
 pub(crate) fn last(b: Book) -> fmt::Result {
     begun_after(b, 65534, b"\x02\x00\x00\x01")?;
     begun_after(b, 65535, b"\x02\x00\x00\x01")?;

@@ -37,12 +37,14 @@ pub(crate) fn eight_values() -> Polyvalue {
 
 // The polyvalue with another pair.
 fn with_pair(p: Polyvalue, i: usize, value: i16, condition: Condition) -> Polyvalue {
-    let mut q = p;
-    q.values = with_row(p.values, i, value);
-    q.conditions = with_row(p.conditions, i, condition);
-    q
+    Polyvalue {
+        values: with_row(p.values, i, value),
+        conditions: with_row(p.conditions, i, condition),
+        ..p
+    }
 }
 
+// Each clause of the sentence in its turn.
 pub(crate) fn damage(b: Book) -> fmt::Result {
     let good = two_values(0);
     let done = Condition::completed(Place(0));

@@ -9,6 +9,7 @@ use std::fmt::{self, Write};
 pub(crate) struct Output;
 
 impl fmt::Write for Output {
+    // Writes the text.
     fn write_str(&mut self, text: &str) -> fmt::Result {
         io::write_all(1, text.as_bytes());
         Ok(())
@@ -20,6 +21,7 @@ impl fmt::Write for Output {
 pub(crate) struct Numbers<const N: usize>(pub(crate) [Answer; N]);
 
 impl<const N: usize> fmt::Display for Numbers<N> {
+    // Writes them in their order.
     fn fmt<W: fmt::Write>(&self, f: &mut fmt::Formatter<W>) -> fmt::Result {
         for answer in &self.0 {
             write!(f, " {}", answer_number(*answer))?;
