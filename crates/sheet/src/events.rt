@@ -8,7 +8,7 @@ use crate::readers::{Reader, Wrong};
 use conditions::TransactionNumber;
 
 // An event. The bytes of a begin's program stand in the sheet from `from` up to `to`.
-#[derive(Clone, Copy)]
+#[derive(Clone, Copy, Debug, PartialEq, Eq)]
 pub enum Event {
     Begin {
         from: usize,
@@ -38,7 +38,7 @@ pub enum Event {
 }
 
 // An event that was found, and the place behind it.
-#[derive(Clone, Copy)]
+#[derive(Clone, Copy, Debug, PartialEq, Eq)]
 pub struct Found {
     pub event: Event,
     pub next: usize,

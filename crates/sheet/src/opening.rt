@@ -12,7 +12,7 @@ pub const MOST_BYTES: usize = 32768;
 
 // Whether the sheet opened its book, and the place that 13 or 14 gives; the book; where the first
 // event stands, and how many there are. Refused, the book is all zero, and so are the numbers.
-// kept: no Result, since document 01 gives a refused call the all-zero book (`open_sheet`, law `refused-zero`).
+// kept: no Result: `open_sheet` gives a refused sheet each field, the all-zero book of document 01 among them.
 #[derive(Clone, Copy)]
 pub struct Opened {
     pub answer: Answer,
@@ -36,7 +36,7 @@ fn refused(refusal: Refusal, place: usize) -> Opened
     }
 }
 
-// The call.
+// Open, the call.
 #[tactic(auto, unfolding(crate::specs::Open::open_sheet, crate::specs::Open::opened_sheet, crate::specs::Open::refused))]
 pub fn open(sheet: &[u8]) -> Opened
     ensures { result ≡ open_sheet places sheet.now }

@@ -11,7 +11,7 @@ use conditions::NoRoom;
 
 // What playing an event gives: where its line ends, and the book that the next event takes. Where the
 // buffer is too short, nothing was played.
-// kept: no Result, since document 01 gives the next call the book of the one before it, refused or not (`played`).
+// kept: the book stands beside the Result: document 01 has the next call take it, refused or not (`played`).
 #[derive(Clone, Copy)]
 pub struct Played {
     pub written: Result<usize, NoRoom>,
@@ -81,7 +81,7 @@ fn shown(book: Book, item: u8, position: u64, line: &mut Line) -> Played
     }
 }
 
-// The call: an event of the sheet, at its position, on the book.
+// Play, the call: an event of the sheet, at its position, on the book.
 #[tactic(auto, unfolding(crate::specs::Play::played, crate::specs::Play::played_buffer, crate::specs::Lines::line_answer, crate::specs::Lines::line_written))]
 pub fn play(book: Book, sheet: &[u8], event: Event, position: u64, buf: &mut [u8]) -> Played
     ensures value { result ≡ played places book sheet.now event position buf.old }
