@@ -4,6 +4,8 @@ use Rattle.conditions.specs.Below.{any}
 use Rattle.conditions.specs.Sets.{member}
 use Rattle.book.specs.declared.Refusal.TheVariants.{NotOpen, AlreadyDecided, NotReady, Unsound}
 use Rattle.book.specs.declared.Book.{Book}
+use Rattle.book.specs.declared.decide.Decision.{Decision}
+use Rattle.book.specs.declared.decide.Decision.TheVariants.{Completed, Aborted}
 use Rattle.book.specs.declared.Open.{Open}
 use Rattle.book.specs.declared.Done.{Done}
 use Rattle.book.specs.Answers.{Answer, first_of}
@@ -35,6 +37,11 @@ abort_answer w b n =
     ∷ (decided (open_of w b n), AlreadyDecided)
     ∷ []
     )
+
+-- the document's number for each decision: "1 completed, 2 aborted"
+abbrev pub decision_number : Decision → ℕ
+decision_number Completed = 1
+decision_number Aborted = 2
 
 -- an open transaction with its decision (1 completed, 2 aborted)
 abbrev pub with_decision : ℕ → Open → Open

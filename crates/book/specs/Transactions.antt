@@ -1,7 +1,7 @@
 -- "Events on a transaction: 4, 1, then 9, or 10, 11, or 12." (document 01, Answer numbers): what these events share.
 use Rattle.std.specs.Prelude.{◌≡◌, Bool, true, not, cond, List, [], ◌∷◌, ℕ, ◌<◌, ltb}
 use Rattle.book.specs.declared.Refusal.{Refusal}
-use Rattle.book.specs.declared.Refusal.TheVariants.{NoDistrict, NotOpen, Unsound}
+use Rattle.book.specs.declared.Refusal.TheVariants.{NoDistrict, NotOpen, NotOnIt, Unsound}
 use Rattle.book.specs.declared.Book.{Book}
 use Rattle.book.specs.declared.Done.{Done}
 use Rattle.book.specs.declared.site.Site.{Site}
@@ -29,6 +29,10 @@ open_tests w b n = (unsound w b, Unsound) ∷ (not_open w b n, NotOpen) ∷ []
 -- and at a district: 15, 4, 1
 abbrev pub site_tests : ℕ → Book → ℕ → ℕ → List (Bool × Refusal)
 site_tests w b n d = (unsound w b, Unsound) ∷ (not_open w b n, NotOpen) ∷ (no_district b d, NoDistrict) ∷ []
+
+-- and of a district that is not on the transaction as the event asks: 15, 4, 1, 9
+abbrev pub on_tests : ℕ → Book → ℕ → ℕ → Bool → List (Bool × Refusal)
+on_tests w b n d is_on = (unsound w b, Unsound) ∷ (not_open w b n, NotOpen) ∷ (no_district b d, NoDistrict) ∷ (not is_on, NotOnIt) ∷ []
 
 -- where the event takes place: the transaction number n at its place, and district d
 abbrev pub site_of : ℕ → Book → ℕ → ℕ → Site

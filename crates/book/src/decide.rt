@@ -5,8 +5,9 @@ ghost use Rattle.conditions.specs.Below.{any};
 ghost use Rattle.conditions.specs.Sets.{member};
 ghost use Rattle.conditions.specs.Places.{places};
 ghost use Rattle.book.specs.Book.{most_districts, place_of};
-ghost use Rattle.book.specs.Forget.{forget};
-ghost use Rattle.book.specs.Decide.{complete_answer, abort_answer, decide, complete, abort};
+ghost use Rattle.book.specs.Forget.{decided as is_decided, forget};
+ghost use Rattle.book.specs.Hear.{outcome};
+ghost use Rattle.book.specs.Decide.{decision_number, complete_answer, abort_answer, decide, complete, abort};
 ghost use Rattle.book.specs.SoundTest.{sound};
 
 use crate::sets::has;
@@ -14,10 +15,42 @@ use crate::tables::{FREE, item_depends, some_on};
 use crate::{Book, Done, Open, Refusal};
 use conditions::{Place, TransactionNumber};
 
-// The numbers of the decisions.
-pub(crate) const COMPLETED: u8 = 1;
+// What is decided of a transaction, with document 01's number.
+#[derive(Clone, Copy, PartialEq, Eq)]
+pub enum Decision {
+    Completed = 1,
+    Aborted,
+}
 
-pub(crate) const ABORTED: u8 = 2;
+impl Decision {
+    // Its number, as a place holds it.
+    fn number(self) -> u8
+        ensures { result ≡ decision_number self }
+    {
+        self as u8
+    }
+}
+
+// The numbers of the decisions.
+pub(crate) const COMPLETED: u8 = Decision::Completed as u8;
+
+pub(crate) const ABORTED: u8 = Decision::Aborted as u8;
+
+impl Open {
+    // Whether the transaction is decided, either way.
+    pub(crate) fn is_decided(self) -> bool
+        ensures { result ≡ is_decided self }
+    {
+        self.decision != 0
+    }
+
+    // Whether it is completed.
+    pub(crate) fn is_completed(self) -> bool
+        ensures { result ≡ outcome self }
+    {
+        self.decision == COMPLETED
+    }
+}
 
 // Whether the district is touched and has not reported ready.
 fn is_awaited(o: Open, d: usize) -> bool
@@ -26,7 +59,7 @@ fn is_awaited(o: Open, d: usize) -> bool
     has(o.touched, d) && !has(o.ready, d)
 }
 
-// Whether a district is.
+// Whether a district is awaited.
 fn some_awaited(o: Open, districts: usize) -> bool
     requires { districts ≤ most_districts }
     ensures { result ≡ any districts (λ d. member o.touched d && not (member o.ready d)) }
@@ -36,12 +69,12 @@ fn some_awaited(o: Open, districts: usize) -> bool
 
 // The transaction at the place has the decision, and is closed where no district is on it and no item
 // depends on it: nothing else can be forgotten.
-fn decided(mut b: Book, q: usize, decision: u8) -> Book
-    requires { (sound places b ≡ true) × (q < places) × (1 ≤ decision) }
-    ensures { (n : ℕ) → q ≡ place_of places b n → result ≡ forget places (decide places b n decision) }
+fn decided(mut b: Book, q: usize, decision: Decision) -> Book
+    requires { (sound places b ≡ true) × (q < places) }
+    ensures { (n : ℕ) → q ≡ place_of places b n → result ≡ forget places (decide places b n (decision_number decision)) }
 {
     let number = b.open[q].number;
-    b.open[q].decision = decision;
+    b.open[q].decision = decision.number();
     if some_on(b.records, b.districts, number.0) {
         return b;
     }
@@ -61,7 +94,7 @@ impl Book {
         ensures { result ≡ result_and (abort_answer places self.now n.0) (Ok (place_of places self.now n.0)) }
     {
         let q = self.open_place(n)?;
-        if self.open[q].decision != 0 {
+        if self.open[q].is_decided() {
             return Err(Refusal::AlreadyDecided);
         }
         Ok(q)
@@ -78,13 +111,13 @@ impl Book {
         Ok(q)
     }
 
-    // The call that completes.
+    // Complete, the call.
     pub fn complete(self, n: TransactionNumber) -> Done
         ensures { result ≡ complete places self n.0 }
     {
         match self.may_complete(n) {
             Ok(q) => {
-                let after = decided(self, q, COMPLETED);
+                let after = decided(self, q, Decision::Completed);
                 Done {
                     answer: Ok(()),
                     book: after,
@@ -97,13 +130,13 @@ impl Book {
         }
     }
 
-    // The call that aborts.
+    // Abort, the call.
     pub fn abort(self, n: TransactionNumber) -> Done
         ensures { result ≡ abort places self n.0 }
     {
         match self.may_abort(n) {
             Ok(q) => {
-                let after = decided(self, q, ABORTED);
+                let after = decided(self, q, Decision::Aborted);
                 Done {
                     answer: Ok(()),
                     book: after,

@@ -35,7 +35,7 @@ pub(crate) fn is_kept(t: Tables, q: usize, o: Open) -> bool
     requires { q < place_count }
     ensures { (b : Book) → TablesOf place_count b t → result ≡ kept place_count b q o }
 {
-    if o.decision == 0 {
+    if !o.is_decided() {
         return true;
     }
     some_on(t.records, t.districts, o.number.0) || has(t.depended, q)

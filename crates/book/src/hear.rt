@@ -1,47 +1,64 @@
 // Hear: a district learns the outcome of a transaction.
-ghost use Rattle.std.specs.Prelude.{◌≡◌};
+ghost use Rattle.std.specs.Prelude.{◌≡◌, ◌≤◌};
 ghost use Rattle.std.specs.Result.{result_and};
 ghost use Rattle.conditions.specs.Places.{places};
 ghost use Rattle.book.specs.Transactions.{site_of, SiteIn};
-ghost use Rattle.book.specs.Hear.{hear_answer, heard, hear};
+ghost use Rattle.book.specs.declared.Book.{Book};
+ghost use Rattle.book.specs.Book.{most_items};
+ghost use Rattle.book.specs.Rows.{rows};
+ghost use Rattle.book.specs.Hear.{hear_answer, hear_item, heard, hear};
 
-use crate::decide::COMPLETED;
 use crate::forget::forget;
 use crate::items::heard as heard_item;
-use crate::records::heard as heard_record;
+use crate::records::hear;
 use crate::site::Site;
-use crate::{Book, Done, Refusal};
+use crate::tables::{DISTRICTS, ITEMS};
+use crate::{Book, Done, Item, Record, Refusal};
 use conditions::TransactionNumber;
+
+// The items have heard.
+fn hear_items(
+    items: &mut [Item; ITEMS],
+    count: usize,
+    records: [Record; DISTRICTS],
+    at: Site,
+    completed: bool,
+)
+    requires { count ≤ most_items }
+    ensures { (b : Book) → b.records ≡ records → items.new ≡ rows (λ i x. hear_item places b at.number.0 at.district at.place.0 completed x) count items.old }
+{
+    for x in &mut items[..count] {
+        *x = heard_item(*x, records, at, completed);
+    }
+}
 
 // The district and its items have heard.
 fn heard(mut b: Book, at: Site) -> Book
     requires { SiteIn places b at }
     ensures { result ≡ heard places b at.number.0 at.district }
 {
-    let completed = b.open[at.place.0].decision == COMPLETED;
+    let completed = b.open[at.place.0].is_completed();
+    let count = b.count;
     let records = b.records;
-    for i in 0..b.count {
-        b.items[i] = heard_item(b.items[i], records, at, completed);
-    }
-    let d = at.district as usize;
-    b.records[d] = heard_record(b.records[d], at.number);
+    hear_items(&mut b.items, count, records, at, completed);
+    hear(&mut b.records[usize::from(at.district)], at.number);
     b
 }
 
 impl Book {
-    // Where it may: 12 before a decision.
+    // Where a district may hear: 12 before a decision.
     fn may_hear(&self, n: TransactionNumber, d: u8) -> Result<Site, Refusal>
         ensures { result ≡ result_and (hear_answer places self.now n.0 d) (Ok (site_of places self.now n.0 d)) }
     {
         let at = self.site(n, d)?;
         let q = at.place.0;
-        if self.open[q].decision == 0 {
+        if !self.open[q].is_decided() {
             return Err(Refusal::NotDecided);
         }
         Ok(at)
     }
 
-    // The call.
+    // Hear, the call.
     pub fn hear(self, n: TransactionNumber, d: u8) -> Done
         ensures { result ≡ hear places self n.0 d }
     {

@@ -6,7 +6,7 @@ ghost use Rattle.conditions.specs.Places.{places};
 ghost use Rattle.book.specs.Transactions.{site_of, SiteIn};
 ghost use Rattle.book.specs.Ready.{ready_answer, readied, ready};
 
-use crate::records::{computing_on, readied as readied_record};
+use crate::records::{computing_on, wait};
 use crate::sets::including;
 use crate::site::Site;
 use crate::{Book, Done, Refusal};
@@ -17,25 +17,21 @@ fn readied(mut b: Book, at: Site) -> Book
     requires { SiteIn places b at }
     ensures { result ≡ readied places b at.number.0 at.district }
 {
-    let d = at.district as usize;
-    b.records[d] = readied_record(b.records[d]);
+    let d = usize::from(at.district);
+    wait(&mut b.records[d]);
     b.open[at.place.0].ready = including(b.open[at.place.0].ready, d);
     b
 }
 
 impl Book {
-    // Where it may: 9 unless the district is computing on the transaction.
+    // Where a district may report ready: 9 unless the district is computing on the transaction.
     fn may_ready(&self, n: TransactionNumber, d: u8) -> Result<Site, Refusal>
         ensures { result ≡ result_and (ready_answer places self.now n.0 d) (Ok (site_of places self.now n.0 d)) }
     {
-        let at = self.site(n, d)?;
-        if !computing_on(self.records[d as usize], n) {
-            return Err(Refusal::NotOnIt);
-        }
-        Ok(at)
+        self.site_where(n, d, computing_on)
     }
 
-    // The call.
+    // Ready, the call.
     pub fn ready(self, n: TransactionNumber, d: u8) -> Done
         ensures { result ≡ ready places self n.0 d }
     {

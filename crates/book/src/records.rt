@@ -32,49 +32,24 @@ pub(crate) fn busy_on(district: Record, n: TransactionNumber) -> bool
 }
 
 // Ready: computing to waiting.
-fn wait(district: &mut Record)
+pub(crate) fn wait(district: &mut Record)
     ensures { district.new ≡ ready_record district.old }
 {
     district.phase = WAITING;
 }
 
 // Give up: to idle.
-fn rest(district: &mut Record)
+pub(crate) fn rest(district: &mut Record)
     ensures { district.new ≡ give_up_record district.old }
 {
     *district = RESTING;
 }
 
 // Hear: to idle, where it is busy on the transaction.
-fn hear(district: &mut Record, n: TransactionNumber)
+pub(crate) fn hear(district: &mut Record, n: TransactionNumber)
     ensures { district.new ≡ hear_record n.0 district.old }
 {
     if busy_on(*district, n) {
         rest(district);
     }
-}
-
-// The record after ready.
-// kept: document 01 lends the step one record alone, with a thin function each for ready, give up and hear.
-pub(crate) fn readied(mut r: Record) -> Record
-    ensures { result ≡ ready_record r }
-{
-    wait(&mut r);
-    r
-}
-
-// The record after give up.
-pub(crate) fn rested(mut r: Record) -> Record
-    ensures { result ≡ give_up_record r }
-{
-    rest(&mut r);
-    r
-}
-
-// The record after hear.
-pub(crate) fn heard(mut r: Record, n: TransactionNumber) -> Record
-    ensures { result ≡ hear_record n.0 r }
-{
-    hear(&mut r, n);
-    r
 }

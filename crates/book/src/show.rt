@@ -25,7 +25,7 @@ fn write_held(held: Polyvalue, open: [Open; PLACES], buf: &mut [u8]) -> Result<u
 }
 
 impl Book {
-    // The call: the line of an item's held pairs is written at the buffer's start, and it gives where
+    // Show, the call: the line of an item's held pairs is written at the buffer's start, and it gives where
     // that line ends.
     pub fn show(self, item: u8, buf: &mut [u8]) -> Result<usize, Refusal>
         ensures value { result ≡ show place_count self item buf.old }
@@ -34,7 +34,7 @@ impl Book {
         if !self.is_sound() {
             return Err(Refusal::Unsound);
         }
-        let i = item as usize;
+        let i = usize::from(item);
         if self.count <= i {
             return Err(Refusal::NoItem);
         }

@@ -1,13 +1,13 @@
 // Where an event takes place: an open transaction, and a district.
-ghost use Rattle.std.specs.Prelude.{◌≡◌};
+ghost use Rattle.std.specs.Prelude.{◌≡◌, Bool};
 ghost use Rattle.std.specs.Result.{result_and};
 ghost use Rattle.conditions.specs.Places.{places};
 ghost use Rattle.book.specs.Answers.{first_of};
-ghost use Rattle.book.specs.Book.{place_of};
-ghost use Rattle.book.specs.Transactions.{open_tests, site_tests, site_of};
+ghost use Rattle.book.specs.Book.{place_of, record_at};
+ghost use Rattle.book.specs.Transactions.{open_tests, site_tests, on_tests, site_of};
 
 use crate::tables::place_of;
-use crate::{Book, Refusal};
+use crate::{Book, Record, Refusal};
 use conditions::{Place, TransactionNumber};
 
 // The transaction's number and its place, and the district.
@@ -34,7 +34,7 @@ impl Book {
         ensures { result ≡ result_and (first_of (site_tests places self.now n.0 d)) (Ok (site_of places self.now n.0 d)) }
     {
         let q = self.open_place(n)?;
-        if self.districts <= d as usize {
+        if self.districts <= usize::from(d) {
             return Err(Refusal::NoDistrict);
         }
         Ok(Site {
@@ -42,5 +42,22 @@ impl Book {
             place: Place(q),
             district: d,
         })
+    }
+
+    // And the district's record passes a test on the transaction: 15, 4, 1, 9.
+    pub(crate) fn site_where<F: Fn(Record, TransactionNumber) -> bool>(
+        &self,
+        n: TransactionNumber,
+        d: u8,
+        is_on: F,
+    ) -> Result<Site, Refusal>
+        requires { F.IsAlwaysCallable is_on }
+        ensures { (t : Bool) → ((r : Bool) → F.post is_on (record_at self.now d) n r → r ≡ t) → result ≡ result_and (first_of (on_tests places self.now n.0 d t)) (Ok (site_of places self.now n.0 d)) }
+    {
+        let at = self.site(n, d)?;
+        if !is_on(self.records[usize::from(d)], n) {
+            return Err(Refusal::NotOnIt);
+        }
+        Ok(at)
     }
 }

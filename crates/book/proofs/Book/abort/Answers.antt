@@ -1,5 +1,4 @@
 -- As it was judged.
-use native.Mathlib.Omega.{arith}
 use Rattle.conditions.specs.Places.{places}
 use Rattle.book.specs.Book.{place_of}
 use Rattle.book.specs.Decide.{abort_answer, decide, abort}
@@ -13,7 +12,7 @@ decided-after-requires c =
     let b = c.args.self in
     let judged = and-accepted (abort_answer places b c.args.n.0) c.in-Ok.ensures in
     let first = sound_and_open places b c.args.n.0 _ judged.0 in
-    (first.0, rw judged.1 first.1, omega arith)
+    (first.0, rw judged.1 first.1)
 
 pub returns-in-Ok : goal.returns-in-Ok
 unfolding abort

@@ -1,10 +1,8 @@
 -- The transaction first.
 use mathlib.Core.Path.{◌≡◌, sym, ap, ◌∙◌}
-use mathlib.Core.Bool.{not}
 use mathlib.Core.List.{[]}
 use Prim.Native.Nat.{ℕ}
 use native.Mathlib.Omega.{arith}
-use borrow.Author.Tests.{eq-eqb, ne_eqb}
 use Rattle.std.proofs.Common.{rules}
 use Rattle.std.specs.Prelude.{Err}
 use Rattle.conditions.specs.Places.{places}
@@ -38,14 +36,14 @@ offset_bounds-self-q c =
     let judged = and-accepted (first_of (open_tests places b c.args.n.0)) c.in_ok-q.ensures in
     record { fits = omega (arith, judged.1, (sound_and_open places b c.args.n.0 [] judged.0).1) }
 
-pub returns-then-self-q-ne0 : goal.returns-then-self-q-ne0
+pub returns-then-is_decided : goal.returns-then-is_decided
 unfolding abort_answer
-returns-then-self-q-ne0 c =
+returns-then-is_decided c =
     let b = c.args.self.now in
     let n = c.args.n.0 in
     let judged = and-accepted (first_of (open_tests places b n)) c.in_ok-q.ensures in
     refused-last (open_tests places b n) (decided (open_of places b n)) AlreadyDecided (place_of places b n) (place_of places b n) c.in_ok-q.ensures
-    (ap (λ (q : ℕ). decided (open_at b q)) (sym judged.1) ∙ ap not (ne_eqb _ 0 c.if-self-q-ne0.true))
+    (ap (λ (q : ℕ). decided (open_at b q)) (sym judged.1) ∙ sym c.is_decided.ensures ∙ c.if-is_decided.true)
 
 pub returns : goal.returns
 unfolding abort_answer
@@ -54,4 +52,4 @@ returns c =
     let n = c.args.n.0 in
     let judged = and-accepted (first_of (open_tests places b n)) c.in_ok-q.ensures in
     accepted-last (open_tests places b n) (decided (open_of places b n)) AlreadyDecided (place_of places b n) (place_of places b n) c.in_ok-q.ensures
-    (ap (λ (q : ℕ). decided (open_at b q)) (sym judged.1) ∙ ap not (eq-eqb _ 0 c.if-self-q-ne0.false)) judged.1
+    (ap (λ (q : ℕ). decided (open_at b q)) (sym judged.1) ∙ sym c.is_decided.ensures ∙ c.if-is_decided.false) judged.1

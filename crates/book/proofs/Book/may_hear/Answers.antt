@@ -1,12 +1,11 @@
 -- The transaction and the district first.
 use mathlib.Core.Path.{◌≡◌, sym, ap, ◌∙◌}
-use mathlib.Core.Bool.{Bool, not}
+use mathlib.Core.Bool.{not}
 use mathlib.Core.List.{[]}
 use native.Mathlib.Omega.{arith}
 use Rattle.std.proofs.Common.{rules}
 use Rattle.std.specs.Prelude.{Err}
 use Rattle.conditions.specs.Places.{places}
-use borrow.Author.Tests.{eq-eqb, ne_eqb}
 use Rattle.book.specs.declared.Refusal.TheVariants.{NotDecided}
 use Rattle.book.specs.declared.site.Site.{Site}
 use Rattle.book.specs.Answers.{first_of}
@@ -40,16 +39,16 @@ offset_bounds-self-q c =
     let judged = and-accepted (first_of (site_tests places b c.args.n.0 c.args.d)) c.in_ok-at.ensures in
     record { fits = omega (arith, ap (λ (at : Site). at.place.0) judged.1, (site_in places b c.args.n.0 c.args.d [] judged.0).is_open) }
 
-pub returns-then-self-q-eq0 : goal.returns-then-self-q-eq0
+pub returns-then-not-is_decided : goal.returns-then-not-is_decided
 unfolding hear_answer
-returns-then-self-q-eq0 c =
+returns-then-not-is_decided c =
     let b = c.args.self.now in
     let n = c.args.n.0 in
     let d = c.args.d in
     let at = site_of places b n d in
     let judged = and-accepted (first_of (site_tests places b n d)) c.in_ok-at.ensures in
     refused-last (site_tests places b n d) (not (decided (open_of places b n))) NotDecided at at c.in_ok-at.ensures
-    (ap (λ (s : Site). not (decided (open_at b s.place.0))) (sym judged.1) ∙ ap (λ (t : Bool). not (not t)) (eq-eqb _ 0 c.if-self-q-eq0.true))
+    (ap (λ (s : Site). not (decided (open_at b s.place.0))) (sym judged.1) ∙ ap not (sym c.is_decided.ensures ∙ c.if-not-is_decided.true))
 
 pub returns : goal.returns
 unfolding hear_answer
@@ -60,4 +59,4 @@ returns c =
     let at = site_of places b n d in
     let judged = and-accepted (first_of (site_tests places b n d)) c.in_ok-at.ensures in
     accepted-last (site_tests places b n d) (not (decided (open_of places b n))) NotDecided at at c.in_ok-at.ensures
-    (ap (λ (s : Site). not (decided (open_at b s.place.0))) (sym judged.1) ∙ ap (λ (t : Bool). not (not t)) (ne_eqb _ 0 c.if-self-q-eq0.false)) judged.1
+    (ap (λ (s : Site). not (decided (open_at b s.place.0))) (sym judged.1) ∙ ap not (sym c.is_decided.ensures ∙ c.if-not-is_decided.false)) judged.1

@@ -1,52 +1,8 @@
--- The transaction and the district first.
-use mathlib.Core.Path.{◌≡◌, sym, ap, ◌∙◌}
-use mathlib.Core.Bool.{not}
-use mathlib.Core.List.{[]}
-use Rattle.std.proofs.Common.{rules}
-use Rattle.std.specs.Prelude.{Err}
-use Rattle.conditions.specs.Places.{places}
-use Rattle.book.specs.declared.Refusal.TheVariants.{NotOnIt}
-use Rattle.book.specs.Answers.{first_of}
 use Rattle.book.specs.Book.{record_at}
 use Rattle.book.specs.Records.{computing_on}
 use Rattle.book.specs.Ready.{ready_answer}
-use Rattle.book.specs.Transactions.{site_tests, site_of}
-use Rattle.book.proofs.Doing.{district-row}
-use Rattle.book.proofs.Laws.Answers.{and-accepted}
-use Rattle.book.proofs.Judging.{refused-before, refused-last, accepted-last, site_in}
 use Rattle.book.proofs.Book.may_ready.Goals as goal
-
-pub returns-in_err-at : goal.returns-in_err-at
-unfolding ready_answer
-returns-in_err-at c =
-    let b = c.args.self.now in
-    let n = c.args.n.0 in
-    let d = c.args.d in
-    let at = site_of places b n d in
-    let same : c.from_residual.result ≡ Err c.in_err-at.field-0.0 = search rules in
-    same ∙ refused-before (site_tests places b n d) (not (computing_on n (record_at b d))) NotOnIt at at c.in_err-at.ensures
-
-pub bounds-self-d : goal.bounds-self-d
-bounds-self-d c =
-    let b = c.args.self.now in
-    let at = site_in places b c.args.n.0 c.args.d [] (and-accepted (first_of (site_tests places b c.args.n.0 c.args.d)) c.in_ok-at.ensures).0 in
-    district-row places b at.sound at.district
-
-pub returns-then-not-computing_on : goal.returns-then-not-computing_on
-unfolding ready_answer
-returns-then-not-computing_on c =
-    let b = c.args.self.now in
-    let n = c.args.n.0 in
-    let d = c.args.d in
-    let at = site_of places b n d in
-    refused-last (site_tests places b n d) (not (computing_on n (record_at b d))) NotOnIt at at c.in_ok-at.ensures (ap not (sym c.computing_on.ensures ∙ c.if-not-computing_on.true))
 
 pub returns : goal.returns
 unfolding ready_answer
-returns c =
-    let b = c.args.self.now in
-    let n = c.args.n.0 in
-    let d = c.args.d in
-    let at = site_of places b n d in
-    accepted-last (site_tests places b n d) (not (computing_on n (record_at b d))) NotOnIt at at c.in_ok-at.ensures (ap not (sym c.computing_on.ensures ∙ c.if-not-computing_on.false))
-    (and-accepted (first_of (site_tests places b n d)) c.in_ok-at.ensures).1
+returns c = c.site_where.ensures (computing_on c.args.n.0 (record_at c.args.self.now c.args.d)) (λ r p. p.2)

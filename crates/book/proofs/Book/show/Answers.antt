@@ -14,7 +14,7 @@ returns-then-not-is_sound c =
 
 pub returns-then-self-i : goal.returns-then-self-i
 returns-then-self-i c =
-    let both = none-shown c.args.self c.args.item c.args.buf.now (sym c.is_sound.ensures ∙ c.if-not-is_sound.false) c.if-self-i.true in
+    let both = none-shown c.args.self c.args.item c.args.buf.now (sym c.is_sound.ensures ∙ c.if-not-is_sound.false) (omega arith) in
     record { value = both.0; buf_after = both.1 }
 
 pub bounds-self-i : goal.bounds-self-i
@@ -23,5 +23,7 @@ bounds-self-i c = omega (arith, c.if-self-i.false, (test-sound places c.args.sel
 pub returns : goal.returns
 unfolding held_line
 returns c =
-    let both = item-shown c.args.self c.args.item c.args.buf.now (sym c.is_sound.ensures ∙ c.if-not-is_sound.false) c.if-self-i.false c.write_held.ensures.value c.write_held.ensures.buf_after in
+    let value = rw c.from-i.ensures at c.write_held.ensures.value in
+    let buf_after = rw c.from-i.ensures at c.write_held.ensures.buf_after in
+    let both = item-shown c.args.self c.args.item c.args.buf.now (sym c.is_sound.ensures ∙ c.if-not-is_sound.false) (omega arith) value buf_after in
     record { value = both.0; buf_after = both.1 }

@@ -1,5 +1,6 @@
 -- The transaction first, and then the district.
 use mathlib.Core.Path.{◌≡◌, ap, ◌∙◌}
+use native.Mathlib.Omega.{arith}
 use borrow.Author.Tests.{lt-ltb, le-ltb}
 use Rattle.std.proofs.Common.{rules}
 use Rattle.std.specs.Prelude.{Err, not}
@@ -20,17 +21,17 @@ returns-in_err-q c =
     let same : c.from_residual.result ≡ Err c.in_err-q.field-0.0 = search rules in
     same ∙ refused-before (open_tests places b n) (no_district b d) NoDistrict (place_of places b n) (site_of places b n d) c.in_err-q.ensures
 
-pub returns-then-self-d : goal.returns-then-self-d
-returns-then-self-d c =
+pub returns-then-self-from : goal.returns-then-self-from
+returns-then-self-from c =
     let b = c.args.self.now in
     let n = c.args.n.0 in
     let d = c.args.d in
-    refused-last (open_tests places b n) (no_district b d) NoDistrict (place_of places b n) (site_of places b n d) c.in_ok-q.ensures (ap not (le-ltb d b.districts c.if-self-d.true))
+    refused-last (open_tests places b n) (no_district b d) NoDistrict (place_of places b n) (site_of places b n d) c.in_ok-q.ensures (ap not (le-ltb d b.districts (omega arith)))
 
 pub returns : goal.returns
 returns c =
     let b = c.args.self.now in
     let n = c.args.n.0 in
     let d = c.args.d in
-    accepted-last (open_tests places b n) (no_district b d) NoDistrict (place_of places b n) (site_of places b n d) c.in_ok-q.ensures (ap not (lt-ltb d b.districts c.if-self-d.false))
+    accepted-last (open_tests places b n) (no_district b d) NoDistrict (place_of places b n) (site_of places b n d) c.in_ok-q.ensures (ap not (lt-ltb d b.districts (omega arith)))
     (λ k. record { number = c.args.n; place = record { 0 = (and-accepted (first_of (open_tests places b n)) c.in_ok-q.ensures).1 k }; district = d })
