@@ -14,14 +14,14 @@ use mir.Val.{SFits, of_z, to_z}
 use borrow.Author.Tests.{le-ltb}
 use Rattle.std.specs.Prelude.{unsigned_abs}
 use Rattle.conditions.specs.Text.{bytes, decimal, prefixed, condition_text}
-use Rattle.conditions.specs.Written.{Put}
 use Rattle.conditions.proofs.Putting.{put-none, put_then, put-length}
 use Rattle.polyvalues.specs.declared.polyvalue.Pair.{Pair}
 use Rattle.polyvalues.specs.declared.polyvalue.Polyvalue.{Polyvalue}
+use Rattle.polyvalues.specs.declared.text.Line.{Line}
 use Rattle.polyvalues.specs.Values.{below, value_text}
 use Rattle.polyvalues.specs.Pairs.{assignments, no_pair}
 use Rattle.polyvalues.specs.Polyvalues.{rows_of, in_use}
-use Rattle.polyvalues.specs.Text.{pair_text, line_text}
+use Rattle.polyvalues.specs.Text.{pair_text, line_text, Puts}
 use Rattle.polyvalues.proofs.Joining.{in_use-more}
 
 -- ---- a value: its sign, and its distance from zero
@@ -49,6 +49,11 @@ module _ {v : ℤ} (f : SFits w16 v) (n : ℕ) (e : value_text (handed v) ≡ si
   pub plain-text : below (handed v) (pos 0) ≡ false → value_text v ≡ decimal n
   plain-text t = sym (handed-text f) ∙ e ∙ ap (λ (s : Bool). cond s (bytes "-") [] ++ decimal n) t
 
+-- ---- texts behind what a line has
+
+pub puts_then : {a b c : Line} {s t : List ℕ} → Puts a b s → Puts b c t → Puts a c (s ++ t)
+puts_then p q = record { put = put_then p.put q.put; lent = q.lent ∙ p.lent }
+
 -- ---- pairs and lines
 
 module _ (w : ℕ) (n : ℕ → ℕ) where
@@ -56,10 +61,10 @@ module _ (w : ℕ) (n : ℕ → ℕ) where
   unfolding pair_text
   pair-length p = simp length-append (omega arith)
 
-  pub pair_put : (p : Pair) {l a b m : List ℕ} {at i j end : ℕ} → Put l a at i (value_text p.value) → Put a b i j (bytes ":")
-      → Put b m j end (condition_text w n (assignments p)) → Put l m at end (pair_text w n p)
+  pub pair_put : (p : Pair) {l a b m : Line} → Puts l a (value_text p.value) → Puts a b (bytes ":")
+      → Puts b m (condition_text w n (assignments p)) → Puts l m (pair_text w n p)
   unfolding pair_text
-  pair_put p value colon condition = put_then (put_then value colon) condition
+  pair_put p value colon condition = puts_then (puts_then value colon) condition
 
   -- the pairs of a line, each after a space
   abbrev pub rows_text : List Pair → List ℕ
@@ -91,34 +96,34 @@ module _ (w : ℕ) (n : ℕ → ℕ) where
     pub rest-length : (i : ℕ) → i < length (in_use q) → length (rest i) ≡ 1 + length (row_text i) + length (rest (i + 1))
     rest-length i h = rw (add-one i, rest_more i h) (simp length-append (omega arith))
 
-    -- rows are put from `at` on, up to row i: there is room for the rest, and with the rest put they all are
-    pub record Begun (l m : List ℕ) (at end i : ℕ) : Type 0 where
-      pub enough : end + length (rest i) ≤ length m
-      pub finish : {k : List ℕ} {last : ℕ} → Put m k end last (rest i) → Put l k at last (rest 0)
+    -- rows are put into the line l, up to row i: there is room for the rest, and with the rest put they all are
+    pub record Begun (l m : Line) (i : ℕ) : Type 0 where
+      pub enough : m.end + length (rest i) ≤ length m.buf.now
+      pub finish : {k : Line} → Puts m k (rest i) → Puts l k (rest 0)
 
-    module _ {l m : List ℕ} {at end i : ℕ} (before : Begun l m at end i) where
-      pub begun-room : i < length (in_use q) → end + (1 + length (row_text i)) ≤ length m
+    module _ {l m : Line} {i : ℕ} (before : Begun l m i) where
+      pub begun-room : i < length (in_use q) → m.end + (1 + length (row_text i)) ≤ length m.buf.now
       begun-room h = omega (arith, before.enough, rest-length i h)
 
-      pub begun_more : i < length (in_use q) → {a k : List ℕ} {j next : ℕ} → Put m a end j (bytes " ") → Put a k j next (row_text i) → Begun l k at next (i + 1)
+      pub begun_more : i < length (in_use q) → {a k : Line} → Puts m a (bytes " ") → Puts a k (row_text i) → Begun l k (i + 1)
       begun_more h space pair =
           record {
-            enough = omega (arith, before.enough, rest-length i h, space.ends, pair.ends, put-length space, put-length pair);
-            finish = λ r. before.finish (rw (rest_more i h) (put_then space (put_then pair (rw (add-one i) at r))));
+            enough = omega (arith, before.enough, rest-length i h, space.put.ends, pair.put.ends, put-length space.put, put-length pair.put);
+            finish = λ r. before.finish (rw (rest_more i h) (puts_then space (puts_then pair (rw (add-one i) at r))));
           }
 
-      begun-done : length (in_use q) ≤ i → Put l m at end (rest 0)
-      begun-done h = before.finish (rw (rows-done (in_use q) i h) (put-none m end))
+      begun-done : length (in_use q) ≤ i → Puts l m (rest 0)
+      begun-done h = before.finish (rw (rows-done (in_use q) i h) (record { put = put-none m.buf.now m.end; lent = refl }))
 
     -- the line: the count is put, and then the rows
-    module _ {k : ℕ} (is : k ≡ length (in_use q)) {l m : List ℕ} {at mid : ℕ} (count : Put l m at mid (decimal k)) where
-      pub line-begun : at + length (line_text w n (in_use q)) ≤ length l → Begun m m mid mid 0
+    module _ {k : ℕ} (is : k ≡ length (in_use q)) {l m : Line} (count : Puts l m (decimal k)) where
+      pub line-begun : l.end + length (line_text w n (in_use q)) ≤ length l.buf.now → Begun m m 0
       line-begun h =
           record {
-            enough = omega (arith, line-length (in_use q), ap (λ (j : ℕ). length (decimal j)) is, count.ends, put-length count);
+            enough = omega (arith, line-length (in_use q), ap (λ (j : ℕ). length (decimal j)) is, count.put.ends, put-length count.put);
             finish = λ r. r;
           }
 
-      pub line-done : {o : List ℕ} {end i : ℕ} → Begun m o mid end i → length (in_use q) ≤ i → Put l o at end (line_text w n (in_use q))
+      pub line-done : {o : Line} {i : ℕ} → Begun m o i → length (in_use q) ≤ i → Puts l o (line_text w n (in_use q))
       unfolding line_text
-      line-done rows h = put_then (rw is at count) (begun-done rows h)
+      line-done rows h = puts_then (rw is at count) (begun-done rows h)

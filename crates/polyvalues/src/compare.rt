@@ -6,7 +6,7 @@ ghost use Rattle.polyvalues.specs.Pairs.{no_pair};
 ghost use Rattle.polyvalues.specs.Polyvalues.{most_pairs, in_use};
 ghost use Rattle.polyvalues.specs.Operations.{occurs, different, together, same};
 
-use crate::polyvalue::{Pair, Polyvalue};
+use crate::polyvalue::Polyvalue;
 
 impl Polyvalue {
     // Whether two polyvalues are the same pairs.
@@ -26,16 +26,14 @@ impl Polyvalue {
         true
     }
 
-    // Whether a row from one on has the pair's value.
-    fn occurs(self, pair: Pair, from: usize) -> bool
-        ensures { result ≡ occurs pair.value (drop from (in_use self)) }
+    // Whether a row from one on has the value.
+    fn occurs(self, value: i16, from: usize) -> bool
+        ensures { result ≡ occurs value (drop from (in_use self)) }
     {
-        for i in from..self.len() {
-            if self.row(i).value == pair.value {
-                return true;
-            }
-        }
-        false
+        self.values[..self.len()]
+            .iter()
+            .skip(from)
+            .any(|v| value == *v)
     }
 
     // What row i adds to the values of the rows after it and of the other polyvalue: 1 or nothing.
@@ -45,7 +43,7 @@ impl Polyvalue {
         ensures upper_bound { result ≤ 1 }
     {
         let row = self.row(i);
-        usize::from(!self.occurs(row, i + 1) && !other.occurs(row, 0))
+        usize::from(!self.occurs(row.value, i + 1) && !other.occurs(row.value, 0))
     }
 
     // How many values it adds to those of the other polyvalue.

@@ -69,13 +69,9 @@ impl Polyvalue {
     pub fn depends(self, place: Place) -> bool
         ensures { result ≡ depends places (in_use self) place.0 }
     {
-        for i in 0..self.len() {
-            let row = self.row(i);
-            if row.condition.depends(place) {
-                return true;
-            }
-        }
-        false
+        self.conditions[..self.len()]
+            .iter()
+            .any(|c| c.depends(place))
     }
 
     // The set of the places that one of its conditions depends on.
@@ -83,9 +79,8 @@ impl Polyvalue {
         ensures { result ≡ set_of places (depends places (in_use self)) }
     {
         let mut set: u8 = 0;
-        for i in 0..self.len() {
-            let row = self.row(i);
-            set |= row.condition.places();
+        for c in &self.conditions[..self.len()] {
+            set |= c.places();
         }
         set
     }

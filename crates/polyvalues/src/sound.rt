@@ -83,7 +83,7 @@ impl Polyvalue {
             covered = covered.union(row.condition);
             last = row;
         }
-        covered.same(Condition::FULL)
+        covered == Condition::FULL
     }
 
     // Whether it is a polyvalue: 1 to 8 pairs, values strictly rising, no condition empty, each

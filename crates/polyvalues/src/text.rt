@@ -1,15 +1,15 @@
 // A value as decimal text, and the line of a polyvalue, written into a lent buffer.
 //
-// A text is measured first, so that one that does not fit is never begun: those that put a text are
-// handed a buffer with room for it.
+// A text is measured first, so that one that does not fit is never begun: what puts a text is handed
+// a line with room for it.
 ghost use Rattle.std.specs.Prelude.{◌≡◌, cond, [], ◌∷◌, ◌++◌, ◌+◌, ◌*◌, ◌^◌, ◌≤◌, pos, length};
 ghost use Rattle.conditions.specs.Places.{places};
 ghost use Rattle.conditions.specs.Conditions.{number};
 ghost use Rattle.conditions.specs.Text.{bytes, decimal, number_at, condition_text};
-ghost use Rattle.conditions.specs.Written.{Put, answer, written};
+ghost use Rattle.conditions.specs.Written.{answer, written};
 ghost use Rattle.polyvalues.specs.Values.{below, value_text};
 ghost use Rattle.polyvalues.specs.Polyvalues.{most_pairs, in_use};
-ghost use Rattle.polyvalues.specs.Text.{pair_text, line_text};
+ghost use Rattle.polyvalues.specs.Text.{pair_text, line_text, Puts};
 
 use crate::polyvalue::{Pair, Polyvalue};
 use conditions::{Condition, NoRoom, PLACES, TransactionNumber, decimal_len, room, write_decimal};
@@ -23,6 +23,8 @@ fn distance(v: i16) -> u64
 }
 
 // How many bytes the value takes in decimal.
+// kept: docs/PROMISES.md names `value_len`, and the contract of `Polyvalue::text_len` stands as it
+// was: so the lengths stand beside the texts that are put.
 pub fn value_len(v: i16) -> usize
     ensures value { result ≡ length (value_text v) }
     ensures upper_bound { result ≤ 6 }
@@ -34,35 +36,76 @@ pub fn value_len(v: i16) -> usize
     digits
 }
 
-// Puts one byte.
-// kept: lengths beside the texts that are put: `text_len` and `value_len` are promised of their own.
-fn put_byte(buf: &mut [u8], at: usize, b: u8) -> usize
-    requires { at + 1 ≤ length buf.old }
-    ensures { Put buf.old buf.new at result (b ∷ []) }
-{
-    buf[at] = b;
-    at + 1
+// A lent buffer, and the position of the next byte.
+#[derive(Drop)]
+struct Line<'a> {
+    buf: &'a mut [u8],
+    end: usize,
 }
 
-// Puts a number in decimal.
-fn put_decimal(buf: &mut [u8], at: usize, n: u64) -> usize
-    requires { at + length (decimal n) ≤ length buf.old }
-    ensures { Put buf.old buf.new at result (decimal n) }
-{
-    write_decimal(n, buf, at).unwrap()
-}
-
-// Puts a value.
-fn put_value(buf: &mut [u8], at: usize, v: i16) -> usize
-    requires { at + length (value_text v) ≤ length buf.old }
-    ensures { Put buf.old buf.new at result (value_text v) }
-{
-    let n = distance(v);
-    if v < 0 {
-        let digits = put_byte(buf, at, b'-');
-        return put_decimal(buf, digits, n);
+impl Line<'_> {
+    // Puts one byte.
+    fn byte(&mut self, b: u8)
+        requires { self.old.end + 1 ≤ length self.old.buf.now }
+        ensures { Puts self.old self.new (b ∷ []) }
+    {
+        self.buf[self.end] = b;
+        self.end += 1;
     }
-    put_decimal(buf, at, n)
+
+    // Puts a number in decimal.
+    fn decimal(&mut self, n: u64)
+        requires { self.old.end + length (decimal n) ≤ length self.old.buf.now }
+        ensures { Puts self.old self.new (decimal n) }
+    {
+        self.end = write_decimal(n, self.buf, self.end).unwrap();
+    }
+
+    // Puts a value.
+    fn value(&mut self, v: i16)
+        requires { self.old.end + length (value_text v) ≤ length self.old.buf.now }
+        ensures { Puts self.old self.new (value_text v) }
+    {
+        let n = distance(v);
+        if v < 0 {
+            self.byte(b'-');
+            return self.decimal(n);
+        }
+        self.decimal(n);
+    }
+
+    // Puts a condition.
+    fn condition(&mut self, c: Condition, numbers: [TransactionNumber; PLACES])
+        requires { self.old.end + length (condition_text places (number_at numbers) (number c)) ≤ length self.old.buf.now }
+        ensures { Puts self.old self.new (condition_text places (number_at numbers) (number c)) }
+    {
+        self.end = c.write_text(numbers, self.buf, self.end).unwrap();
+    }
+
+    // Puts a pair.
+    fn pair(&mut self, pair: Pair, numbers: [TransactionNumber; PLACES])
+        requires { self.old.end + length (pair_text places (number_at numbers) pair) ≤ length self.old.buf.now }
+        ensures { Puts self.old self.new (pair_text places (number_at numbers) pair) }
+    {
+        self.value(pair.value);
+        self.byte(b':');
+        self.condition(pair.condition, numbers);
+    }
+
+    // Puts a polyvalue: the count of pairs, and each pair after a space.
+    fn polyvalue(&mut self, q: Polyvalue, numbers: [TransactionNumber; PLACES])
+        requires { self.old.end + length (line_text places (number_at numbers) (in_use q)) ≤ length self.old.buf.now }
+        ensures { Puts self.old self.new (line_text places (number_at numbers) (in_use q)) }
+    {
+        let n = q.len();
+        // kept: no plainer than `as`, since Rust has no From<usize> for u64.
+        self.decimal(n as u64);
+        for i in 0..n {
+            let row = q.row(i);
+            self.byte(b' ');
+            self.pair(row, numbers);
+        }
+    }
 }
 
 // Writes the value in decimal into the buffer, from a position on.
@@ -73,20 +116,9 @@ pub fn write_value(v: i16, buf: &mut [u8], at: usize) -> Result<usize, NoRoom>
     if !room(buf.len(), at, value_len(v)) {
         return Err(NoRoom);
     }
-    Ok(put_value(buf, at, v))
-}
-
-// Puts a condition.
-fn put_condition(
-    buf: &mut [u8],
-    at: usize,
-    c: Condition,
-    numbers: [TransactionNumber; PLACES],
-) -> usize
-    requires { at + length (condition_text places (number_at numbers) (number c)) ≤ length buf.old }
-    ensures { Put buf.old buf.new at result (condition_text places (number_at numbers) (number c)) }
-{
-    c.write_text(numbers, buf, at).unwrap()
+    let mut line = Line { buf, end: at };
+    line.value(v);
+    Ok(line.end)
 }
 
 // How many bytes a pair takes as text.
@@ -97,31 +129,6 @@ fn pair_len(pair: Pair, numbers: [TransactionNumber; PLACES]) -> usize
     value_len(pair.value) + 1 + pair.condition.text_len(numbers)
 }
 
-// Puts a pair.
-fn put_pair(buf: &mut [u8], at: usize, pair: Pair, numbers: [TransactionNumber; PLACES]) -> usize
-    requires { at + length (pair_text places (number_at numbers) pair) ≤ length buf.old }
-    ensures { Put buf.old buf.new at result (pair_text places (number_at numbers) pair) }
-{
-    let colon = put_value(buf, at, pair.value);
-    let condition = put_byte(buf, colon, b':');
-    put_condition(buf, condition, pair.condition, numbers)
-}
-
-// Puts the line of a polyvalue.
-fn put_line(buf: &mut [u8], at: usize, q: Polyvalue, numbers: [TransactionNumber; PLACES]) -> usize
-    requires { at + length (line_text places (number_at numbers) (in_use q)) ≤ length buf.old }
-    ensures { Put buf.old buf.new at result (line_text places (number_at numbers) (in_use q)) }
-{
-    let n = q.len();
-    let mut end = put_decimal(buf, at, n as u64);
-    for i in 0..n {
-        let row = q.row(i);
-        end = put_byte(buf, end, b' ');
-        end = put_pair(buf, end, row, numbers);
-    }
-    end
-}
-
 impl Polyvalue {
     // How many bytes its line takes, where each place has its transaction number.
     pub fn text_len(self, numbers: [TransactionNumber; PLACES]) -> usize
@@ -129,6 +136,7 @@ impl Polyvalue {
         ensures upper_bound { result ≤ 1 + most_pairs * (8 + (8 * places + 2) * 3 ^ places) }
     {
         let n = self.len();
+        // kept: no plainer than `as`, as in `Line::polyvalue`.
         let mut len = decimal_len(n as u64);
         for i in 0..n {
             let row = self.row(i);
@@ -150,6 +158,8 @@ impl Polyvalue {
         if !room(buf.len(), at, self.text_len(numbers)) {
             return Err(NoRoom);
         }
-        Ok(put_line(buf, at, self, numbers))
+        let mut line = Line { buf, end: at };
+        line.polyvalue(self, numbers);
+        Ok(line.end)
     }
 }

@@ -1,23 +1,20 @@
-use mathlib.Core.Path.{refl, sym, ◌∙◌}
-use native.Mathlib.Numerals.{add-one}
-use native.Mathlib.Omega.{arith}
-use lib.ListN.{drop_of_length-le}
-use Rattle.polyvalues.specs.Pairs.{depends}
+-- The conditions in use, asked one by one.
+use borrow.Author.Rules.{rules}
+use borrow.Author.Tests.{tests}
+use mathlib.Core.Path.{ap, ◌∙◌}
+use lib.ListN.{take}
+use Rattle.std.specs.List.{list_any}
+use Rattle.std.proofs.lemmas.Iterator.{YieldsList-from_slice}
+use Rattle.std.proofs.lemmas.Iterator.Search.{any_from_yields_List}
+use Rattle.conditions.specs.Places.{places}
+use Rattle.conditions.specs.Conditions.{number, depends_on}
 use Rattle.polyvalues.specs.Polyvalues.{in_use}
-use Rattle.polyvalues.proofs.Joining.{in_use-more}
+use Rattle.polyvalues.proofs.Known.{Held, all-rows}
+use Rattle.polyvalues.proofs.Columns.{conditions-in_use, any-depends}
 use Rattle.polyvalues.proofs.polyvalue.Polyvalue.depends.Goals as goal
 
-pub loop-i-init : goal.loop-i-init
-loop-i-init c = refl
-
-pub returns-then-depends : goal.returns-then-depends
-unfolding depends
-returns-then-depends c = rw (in_use-more c.args.self c.loop-i.i c.row-row.ensures (omega (arith, c.len-i-end.ensures.value)), sym c.depends.ensures ∙ c.if-depends.true) at c.loop-i.invariant
-
-pub loop-i-preserved : goal.loop-i-preserved
-unfolding depends
-loop-i-preserved c = (rw add-one (rw (in_use-more c.args.self c.loop-i.i c.row-row.ensures (omega (arith, c.len-i-end.ensures.value)), sym c.depends.ensures ∙ c.if-depends.false) at c.loop-i.invariant))
-
 pub returns : goal.returns
-unfolding depends
-returns c = rw (drop_of_length-le (in_use c.args.self) {i = c.loop-i.i} (omega (arith, c.len-i-end.ensures.value))) at c.loop-i.invariant
+returns c =
+    let held : Held c.args.self = record { values = _; own = c.well_formed.0 } in
+    any_from_yields_List (λ x. depends_on places (number x) c.args.place.0) _ _ _ c.any.ensures.ran (YieldsList-from_slice (take c.len.result c.args.self.conditions) cc) (λ x b q k. search (rules, tests))
+    ∙ ap (list_any (λ x. depends_on places (number x) c.args.place.0)) (conditions-in_use (all-rows held) c.len.ensures.value) ∙ any-depends places c.args.place.0 (in_use c.args.self)

@@ -1,25 +1,33 @@
-use mathlib.Core.Path.{◌≡◌, sym, ap, ◌∙◌}
-use mathlib.Core.Bool.{true, false}
-use native.Mathlib.Numerals.{add-one}
-use native.Mathlib.Omega.{arith}
+-- The values in use, asked one by one. Equal bits are equal values.
+use borrow.Author.Rules.{rules}
+use borrow.Author.Tests.{tests}
+use mathlib.Core.Path.{ap, ◌∙◌}
+use mathlib.Core.Bool.{Bool}
+use mathlib.Core.List.{List}
+use lib.Dec.{eqb}
+use lib.IntN.{ℤ}
+use lib.ListN.{take, drop}
 use mir.Syntax.{w16}
-use mir.Val.{SFits, of_z}
+use mir.Val.{of_z}
+use Rattle.std.specs.List.{list_any}
+use Rattle.std.proofs.lemmas.List.{drop-map}
+use Rattle.std.proofs.lemmas.Iterator.{YieldsList-from_slice}
+use Rattle.std.proofs.lemmas.Iterator.Adapters.{YieldsList-from_skip}
+use Rattle.std.proofs.lemmas.Iterator.Search.{any_from_yields_List}
 use Rattle.polyvalues.specs.Values.{equal}
-use Rattle.polyvalues.proofs.Laws.Values.{equal-refl, not_equal}
-use Rattle.polyvalues.proofs.Bits.{same_bits}
-use Rattle.polyvalues.proofs.Known.{Held, row-fits}
-use Rattle.polyvalues.proofs.Joining.{in_use-more}
+use Rattle.polyvalues.specs.Polyvalues.{in_use}
+use Rattle.polyvalues.proofs.Bits.{equal-bits}
+use Rattle.polyvalues.proofs.Known.{Held, all-rows, value-fits}
+use Rattle.polyvalues.proofs.Columns.{values-in_use, any-within, any-occurs}
 use Rattle.polyvalues.proofs.polyvalue.Polyvalue.occurs.Goals as goal
 
-pub returns-then-row-pair : goal.returns-then-row-pair
-returns-then-row-pair c =
-    let held : Held c.args.self = record { values = _; own = c.well_formed.0 } in
-    let fits : SFits w16 c.args.pair.value = record { sfits = c.struct_told-in-loop-i-1.given.0.1 } in
-    let same = same_bits (row-fits held c.loop-i.i c.row.ensures) fits c.if-row-pair.true in
-    let its : equal c.args.pair.value c.row.result.value ≡ true = ap (equal c.args.pair.value) same ∙ equal-refl c.args.pair.value in
-    rw (in_use-more c.args.self c.loop-i.i c.row.ensures (omega (arith, c.len-i-end.ensures.value)), its) at c.loop-i.invariant
-
-pub loop-i-preserved : goal.loop-i-preserved
-loop-i-preserved c =
-    let apart : equal c.args.pair.value c.row.result.value ≡ false = not_equal c.args.pair.value c.row.result.value (λ q. c.if-row-pair.false (ap (of_z w16) (sym q))) in
-    rw add-one (rw (in_use-more c.args.self c.loop-i.i c.row.ensures (omega (arith, c.len-i-end.ensures.value)), apart) at c.loop-i.invariant)
+pub returns : goal.returns
+returns c =
+    let q = c.args.self in
+    let v = c.args.value in
+    let held : Held q = record { values = _; own = c.well_formed.0 } in
+    let bits : ℤ → Bool = λ u. eqb (of_z w16 v) (of_z w16 u) in
+    any_from_yields_List bits _ _ _ c.any.ensures.ran (YieldsList-from_skip c.args.from (YieldsList-from_slice (take c.len.result q.values) cc) cc) (λ x b f k. search (rules, tests))
+    ∙ any-within bits (equal v) c.args.from c.len.result q.values (λ i. equal-bits v _ c.ranges.value (value-fits held i))
+    ∙ ap (λ (vs : List ℤ). list_any (equal v) (drop c.args.from vs)) (values-in_use (all-rows held) c.len.ensures.value)
+    ∙ ap (list_any (equal v)) (drop-map (λ p. p.value) c.args.from (in_use q)) ∙ any-occurs v (drop c.args.from (in_use q))

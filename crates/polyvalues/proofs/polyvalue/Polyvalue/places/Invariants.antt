@@ -4,5 +4,5 @@ use Rattle.conditions.specs.Places.{places as width}
 use Rattle.polyvalues.proofs.Joining.{PlacesBefore}
 use Rattle.polyvalues.proofs.polyvalue.Polyvalue.places.Given as goal
 
-abbrev pub invariant-loop-i : goal.invariant-loop-i
-invariant-loop-i l = (l.set < 2 ^ width) × PlacesBefore l.self l.i l.set
+abbrev pub invariant-loop-c : goal.invariant-loop-c
+invariant-loop-c l = (l.set < 2 ^ width) × PlacesBefore l.fn.self l.c-index l.set

@@ -2,7 +2,7 @@
 use Rattle.conditions.specs.Places.{places}
 use Rattle.conditions.specs.Text.{number_at}
 use Rattle.polyvalues.proofs.Texts.{Begun}
-use Rattle.polyvalues.proofs.text.put_line.Given as goal
+use Rattle.polyvalues.proofs.text.Line.polyvalue.Given as goal
 
 abbrev pub invariant-loop-i : goal.invariant-loop-i
-invariant-loop-i l = Begun places (number_at l.numbers) l.q l.initial.buf l.buf l.initial.end l.end l.i
+invariant-loop-i l = Begun places (number_at l.numbers) l.q l.initial.self l.self l.i
