@@ -128,15 +128,7 @@ impl Product {
     pub fn is_prime(self, c: Condition) -> bool
         ensures { result ≡ prime places self.0 (number c) }
     {
-        if !self.within(c) {
-            return false;
-        }
-        for i in 0..PLACES {
-            if !self.needs(c, i) {
-                return false;
-            }
-        }
-        true
+        self.within(c) && (0..PLACES).all(|i| self.needs(c, i))
     }
 }
 
@@ -157,7 +149,8 @@ impl Condition {
     pub fn next_prime(self, from: Product) -> Product
         ensures { result.0 ≡ next_prime places (number self) from.0 }
     {
-        Product(prime_from(self, from.0, Product::COUNT))
+        let end = from.0.max(Product::COUNT);
+        Product(prime_from(self, from.0, Product::COUNT).unwrap_or(end))
     }
 }
 
@@ -217,20 +210,20 @@ fn barren_from(c: Condition, p: usize) -> Option<usize>
     Some(1)
 }
 
-// The lowest number from one on and below a limit whose product is prime, or the limit.
-pub(crate) fn prime_from(c: Condition, from: usize, limit: usize) -> usize
-    ensures { result ≡ prime_from places (number c) from limit }
+// The lowest number from one on and below a limit whose product is prime, if there is one.
+pub(crate) fn prime_from(c: Condition, from: usize, limit: usize) -> Option<usize>
+    ensures { MatchOption result (limit ≤ prime_from places (number c) from limit) (λ p. (p < limit) × (p ≡ prime_from places (number c) from limit)) }
 {
     let mut p = from;
     // kept: no plainer as a `for`, since each step is as long as `barren_from` answers.
     while p < limit {
         let Some(barren) = barren_from(c, p) else {
-            return p;
+            return Some(p);
         };
         if limit - p <= barren {
-            return limit;
+            return None;
         }
         p += barren;
     }
-    p
+    None
 }
