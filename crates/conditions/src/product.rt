@@ -24,9 +24,10 @@ use crate::table::ALLOWED;
 #[derive(Clone, Copy, Debug, PartialEq, Eq, PartialOrd, Ord)]
 pub struct Product(pub usize);
 
-// What a digit counts, by its place; the last one is the number of products.
+// The powers of 3, which are what the digits count.
 const POWERS: [usize; PLACES + 1] = [1, 3, 9, 27, 81, 243, 729];
 
+// What a digit counts at a place, and past the last place the number of products.
 pub(crate) fn power(i: usize) -> usize
     requires { i ≤ places }
     ensures { result ≡ 3 ^ i }
@@ -146,6 +147,8 @@ impl Condition {
 
     // The condition's next prime product from a number on; where there is none, the number of
     // products, or the number that it began from if that is past it.
+    // kept: no Option, since docs/DECISIONS.md ("A product's digits past the last place say nothing")
+    // and the definition `Products.next_prime` give that number.
     pub fn next_prime(self, from: Product) -> Product
         ensures { result.0 ≡ next_prime places (number self) from.0 }
     {
