@@ -104,12 +104,6 @@ module _ {A : Type 0} (z : A) (n : ℕ) (xs : List A) (h : n ≤ length xs) wher
 
 -- ---- the numbers themselves
 
-pub all_range : (p : ℕ → Bool) (n : ℕ) → list_all p (range_with_len 0 n) ≡ all n p
-all_range p n =
-    let long = length-range_with_len 0 n in
-    let them : take n (range_with_len 0 n) ≡ range_with_len 0 n = ap (λ (k : ℕ). take k (range_with_len 0 n)) (sym long) ∙ take-length (range_with_len 0 n) in
-    ap (list_all p) (sym them) ∙ all_rows p 0 n (range_with_len 0 n) (omega (arith, long)) ∙ all_same n _ _ (λ i l. ap p (get_or-range_with_len 0 n i 0 l ∙ zero-add i))
-
 pub any_range : (p : ℕ → Bool) (n : ℕ) → list_any p (range_with_len 0 n) ≡ any n p
 any_range p n =
     let long = length-range_with_len 0 n in

@@ -1,7 +1,7 @@
 -- The tests of the code for a product that is within a condition, and for one that is prime, for any number w of places.
 use mathlib.Core.Path.{◌≡◌, sym, ap, ap₂, ◌∙◌}
 use mathlib.Core.Bool.{Bool, true, false, not, ◌&&◌, ◌||◌, and-false}
-use Prim.Native.Nat.{ℕ, ◌+◌, ◌-◌, ◌*◌, ◌^◌, ◌≤◌, ◌<◌}
+use Prim.Native.Nat.{ℕ, ◌+◌, ◌-◌, ◌*◌, ◌^◌, ◌≤◌, ◌<◌, max}
 use native.Mathlib.Nat.{lt_of_le_of_lt}
 use native.Mathlib.Omega.{arith}
 use native.Mathlib.Decide.{dec_lt}
@@ -52,7 +52,7 @@ present w p c i e n f g =
 pub part-le : (p i : ℕ) {d q : ℕ} → d ≡ tag_at p i → q ≡ 3 ^ i → d * q ≤ p
 part-le p i e f = rw (e, f) (tag-part p i)
 
--- the three ends of the test
+-- what fails the test
 pub not_within : (w p c : ℕ) → within w p c ≡ false → false ≡ prime w p c
 unfolding prime
 not_within w p c e = ap (λ (x : Bool). x && all w (needed w p c)) (sym e)
@@ -60,10 +60,6 @@ not_within w p c e = ap (λ (x : Bool). x && all w (needed w p c)) (sym e)
 pub not-needed : (w p c i : ℕ) → i < w → needed w p c i ≡ false → false ≡ prime w p c
 unfolding prime
 not-needed w p c i h e = sym (ap (λ (x : Bool). within w p c && x) (all-fails w (needed w p c) i h e) ∙ and-false (within w p c))
-
-pub all-needed : (w p c : ℕ) → within w p c ≡ true → all w (needed w p c) ≡ true → true ≡ prime w p c
-unfolding prime
-all-needed w p c e f = sym (ap₂ ◌&&◌ e f)
 
 -- ---- the next prime product
 
@@ -83,7 +79,20 @@ is-next w c from limit p h l none found =
     sym end ∙ ap (λ (i : ℕ). from + i)
     (is-first (limit - from) (λ n. prime w (from + n) c) (p - from) l none (λ k. ap (λ (q : ℕ). prime w q c) end ∙ found (omega arith)))
 
--- and what is then known of it
+-- where none below the limit is prime, it is not below the limit
+pub none-below : (w c from limit : ℕ) → NonePrime w c from limit → limit ≤ prime_from w c from limit
+none-below w c from limit none = pick (dec_lt from limit)
+  where
+    pick : Dec (from < limit) → limit ≤ prime_from w c from limit
+    pick (yes b) = let e = is-next w c from limit limit (omega arith) (omega arith) none (λ h. absurd (omega arith)) in omega arith
+    pick (no b) = let e = is-next w c from limit from (omega arith) (omega arith) (λ j l. absurd (omega arith)) (λ h. absurd (omega arith)) in omega arith
+
+-- and then it is the limit, or where the search began past it
+pub past-limit : (w c from limit : ℕ) → limit ≤ prime_from w c from limit → max from limit ≡ prime_from w c from limit
+unfolding prime_from
+past-limit w c from limit h = omega (arith, first-le (limit - from) (λ n. prime w (from + n) c))
+
+-- what is then known of it
 pub record Next (w c from limit r : ℕ) : Type 0 where
   pub from_on : from ≤ r
   pub up_to : r ≤ limit

@@ -41,24 +41,28 @@ impl Condition {
         self == other
     }
 
+    // The assignments that are members of one or the other.
     pub fn union(self, other: Condition) -> Condition
         ensures { number result ≡ union places (number self) (number other) }
     {
         Condition(self.0 | other.0)
     }
 
+    // The assignments that are members of both.
     pub fn intersection(self, other: Condition) -> Condition
         ensures { number result ≡ intersection places (number self) (number other) }
     {
         Condition(self.0 & other.0)
     }
 
+    // The assignments that are no members.
     pub fn complement(self) -> Condition
         ensures { number result ≡ complement places (number self) }
     {
         Condition(!self.0)
     }
 
+    // Whether it never applies.
     pub fn is_empty(self) -> bool
         ensures { result ≡ empty places (number self) }
     {
@@ -66,6 +70,8 @@ impl Condition {
     }
 
     // The lowest member, or the number of assignments where there is none.
+    // kept: no Option, since the definition `Conditions.lowest` gives 64 for none; and no `From`,
+    // since `usize` has none from `u32`, and `try_from` would have a refusal to answer.
     pub fn lowest(self) -> usize
         ensures { result ≡ lowest places (number self) }
     {

@@ -24,9 +24,10 @@ use crate::table::ALLOWED;
 #[derive(Clone, Copy, Debug, PartialEq, Eq, PartialOrd, Ord)]
 pub struct Product(pub usize);
 
-// What a digit counts, by its place; the last one is the number of products.
+// The powers of 3, which are what the digits count.
 const POWERS: [usize; PLACES + 1] = [1, 3, 9, 27, 81, 243, 729];
 
+// What a digit counts at a place, and past the last place the number of products.
 pub(crate) fn power(i: usize) -> usize
     requires { i ≤ places }
     ensures { result ≡ 3 ^ i }
@@ -128,15 +129,7 @@ impl Product {
     pub fn is_prime(self, c: Condition) -> bool
         ensures { result ≡ prime places self.0 (number c) }
     {
-        if !self.within(c) {
-            return false;
-        }
-        for i in 0..PLACES {
-            if !self.needs(c, i) {
-                return false;
-            }
-        }
-        true
+        self.within(c) && (0..PLACES).all(|i| self.needs(c, i))
     }
 }
 
@@ -154,10 +147,13 @@ impl Condition {
 
     // The condition's next prime product from a number on; where there is none, the number of
     // products, or the number that it began from if that is past it.
+    // kept: no Option, since docs/DECISIONS.md ("A product's digits past the last place say nothing")
+    // and the definition `Products.next_prime` give that number.
     pub fn next_prime(self, from: Product) -> Product
         ensures { result.0 ≡ next_prime places (number self) from.0 }
     {
-        Product(prime_from(self, from.0, Product::COUNT))
+        let end = from.0.max(Product::COUNT);
+        Product(prime_from(self, from.0, Product::COUNT).unwrap_or(end))
     }
 }
 
@@ -217,20 +213,20 @@ fn barren_from(c: Condition, p: usize) -> Option<usize>
     Some(1)
 }
 
-// The lowest number from one on and below a limit whose product is prime, or the limit.
-pub(crate) fn prime_from(c: Condition, from: usize, limit: usize) -> usize
-    ensures { result ≡ prime_from places (number c) from limit }
+// The lowest number from one on and below a limit whose product is prime, if there is one.
+pub(crate) fn prime_from(c: Condition, from: usize, limit: usize) -> Option<usize>
+    ensures { MatchOption result (limit ≤ prime_from places (number c) from limit) (λ p. (p < limit) × (p ≡ prime_from places (number c) from limit)) }
 {
     let mut p = from;
     // kept: no plainer as a `for`, since each step is as long as `barren_from` answers.
     while p < limit {
         let Some(barren) = barren_from(c, p) else {
-            return p;
+            return Some(p);
         };
         if limit - p <= barren {
-            return limit;
+            return None;
         }
         p += barren;
     }
-    p
+    None
 }

@@ -4,8 +4,8 @@ use mathlib.Core.Path.{◌∙◌}
 use native.Mathlib.Omega.{arith}
 use Rattle.std.proofs.lemmas.Iterator.{YieldsList-from_range}
 use Rattle.std.proofs.lemmas.Iterator.Search.{all_from_yields_List}
+use Rattle.conditions.proofs.Lists.{all_range}
 use Rattle.book.specs.SoundTest.{sound_at}
-use Rattle.book.proofs.Lists.{all_range}
 use Rattle.book.proofs.place_sound.sound_sets.Goals as goal
 
 pub returns : goal.returns

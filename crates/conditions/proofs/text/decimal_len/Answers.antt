@@ -1,10 +1,15 @@
 -- Twenty digits at most.
+use borrow.Author.Rules.{rules}
 use native.Mathlib.Omega.{arith}
 use Rattle.conditions.proofs.Laws.Text.{decimal-le}
 use Rattle.conditions.proofs.text.decimal_len.Goals as goal
 
-pub put_decimal-requires : goal.put_decimal-requires
-put_decimal-requires c = omega (arith, decimal-le 19 c.args.n (omega arith))
-
 pub returns-clause-upper_bound : goal.returns-clause-upper_bound
-returns-clause-upper_bound c = omega (arith, c.put_decimal.ensures.put.ends, decimal-le 19 c.args.n (omega arith))
+returns-clause-upper_bound c =
+    let long = decimal-le 19 c.args.n (omega arith) in
+    search (rules, arith, long)
+
+pub length_by-requires : goal.length_by-requires
+length_by-requires c =
+    let long = decimal-le 19 c.args.n (omega arith) in
+    search (rules, long)

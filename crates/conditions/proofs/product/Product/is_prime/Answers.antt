@@ -1,26 +1,21 @@
-use mathlib.Core.Path.{◌≡◌, refl, sym, ◌∙◌}
-use native.Mathlib.Numerals.{add-one}
+use borrow.Author.Rules.{rules}
+use borrow.Author.Tests.{tests}
+use mathlib.Core.Path.{refl, sym, ap₂, ◌∙◌}
+use mathlib.Core.Bool.{◌&&◌}
 use native.Mathlib.Omega.{arith}
+use Rattle.std.proofs.lemmas.Iterator.{YieldsList-from_range}
+use Rattle.std.proofs.lemmas.Iterator.Search.{all_from_yields_List}
 use Rattle.conditions.specs.Places.{places}
-use Rattle.conditions.specs.Below.{all}
-use Rattle.conditions.proofs.Laws.Below.{all_more}
-use Rattle.conditions.proofs.Primes.{not_within, not-needed, all-needed}
+use Rattle.conditions.specs.Products.{needed, prime}
+use Rattle.conditions.proofs.Lists.{all_range}
+use Rattle.conditions.proofs.Primes.{not_within}
 use Rattle.conditions.proofs.product.Product.is_prime.Goals as goal
 
-pub returns-then-not-within : goal.returns-then-not-within
-returns-then-not-within c = not_within places _ _ (sym c.within.ensures ∙ c.if-not-within.true)
+pub returns-then-within : goal.returns-then-within
+unfolding prime
+returns-then-within c =
+    let each = all_from_yields_List (needed places c.args.self.0 c.args.c.0) _ _ _ c.all.ensures.ran (YieldsList-from_range 0 places places refl (omega arith)) (λ x b q k. search (rules, tests)) in
+    ap₂ ◌&&◌ (sym c.if-within.true ∙ c.within.ensures) (each ∙ all_range (needed places c.args.self.0 c.args.c.0) places)
 
-pub loop-i-init : goal.loop-i-init
-unfolding all
-loop-i-init c = refl
-
-pub returns-then-not-needs : goal.returns-then-not-needs
-returns-then-not-needs c = not-needed places _ _ _ c.loop-i-test.true (sym c.needs.ensures ∙ c.if-not-needs.true)
-
-pub loop-i-preserved : goal.loop-i-preserved
-loop-i-preserved c = rw add-one (all_more _ _ c.loop-i.invariant (sym c.needs.ensures ∙ c.if-not-needs.false))
-
-pub returns : goal.returns
-returns c =
-    let last : c.loop-i.i ≡ places = omega arith in
-    all-needed places _ _ (sym c.within.ensures ∙ c.if-not-within.false) (rw last at c.loop-i.invariant)
+pub returns-else-within : goal.returns-else-within
+returns-else-within c = c.if-within.false ∙ not_within places _ _ (sym c.within.ensures ∙ c.if-within.false)

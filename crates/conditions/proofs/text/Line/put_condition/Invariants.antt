@@ -1,9 +1,6 @@
--- The loop's invariant: the prime products before p are put, and p is the next one or the limit.
-use mathlib.Core.Path.{◌≡◌}
-use mathlib.Core.Bool.{true}
-use Prim.Native.Nat.{◌+◌, ◌*◌, ◌^◌, ◌≤◌, ◌<◌, ◌-◌}
+-- The loop's invariant: the prime products below `from` are put.
+use Prim.Native.Nat.{◌+◌, ◌*◌, ◌^◌, ◌≤◌, ◌-◌}
 use Rattle.conditions.specs.Places.{places}
-use Rattle.conditions.specs.Products.{prime}
 use Rattle.conditions.specs.Text.{number_at}
 use Rattle.conditions.specs.Written.{Puts}
 use Rattle.conditions.proofs.Putting.{primes_text}
@@ -11,12 +8,11 @@ use Rattle.conditions.proofs.text.Line.put_condition.Given as goal
 
 abbrev pub invariant-loop-p : goal.invariant-loop-p
 invariant-loop-p l = record {
-  put : Puts l.initial.self l.self (primes_text places (number_at l.numbers) l.c.0 l.p);
-  up_to : l.p ≤ l.limit;
+  put : Puts l.initial.self l.self (primes_text places (number_at l.numbers) l.c.0 l.from);
+  up_to : l.from ≤ l.limit;
   limited : l.limit ≤ 3 ^ places;
-  found : l.p < l.limit → prime places l.p l.c.0 ≡ true;
-  upper_bound : l.self.at ≤ l.start + (8 * places + 2) * l.p;
+  upper_bound : l.self.at ≤ l.start + (8 * places + 2) * l.from;
 }
 
 abbrev pub decreases-loop-p : goal.decreases-loop-p
-decreases-loop-p l = l.limit - l.p
+decreases-loop-p l = l.limit - l.from
