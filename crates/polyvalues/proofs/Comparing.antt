@@ -1,18 +1,20 @@
 -- Two lists of pairs side by side, row by row.
-use mathlib.Core.Path.{◌≡◌, refl, sym, ap, ◌∙◌}
-use mathlib.Core.Bool.{Bool, true, false, not, ◌&&◌, ◌||◌, true≢false, false≢true}
-use mathlib.Core.List.{List, [], ◌∷◌, ◌++◌, append-nil}
+use mathlib.Core.Path.{◌≡◌, refl, sym, ap, ap₂, ◌∙◌}
+use mathlib.Core.Bool.{Bool, true, false, not, ◌&&◌, ◌||◌, true≢false}
+use mathlib.Core.List.{List, [], ◌∷◌, ◌++◌, map, append-nil}
 use Prim.Native.Nat.{ℕ, suc, ◌+◌, ◌<◌}
 use native.Mathlib.Numerals.{add-one}
 use native.Mathlib.Nat.{add-zero}
 use lib.Dec.{eqb}
 use lib.IntN.{ℤ}
+use lib.Pointwise.{pointwise}
 use Rattle.std.specs.Ordering.{int_eq}
 use Rattle.std.proofs.lemmas.Bool.Decides.{Decides-int_eq}
 use lib.ListN.{length, get_or, drop}
 use mir.Val.{bool_byte}
 use Rattle.conditions.specs.Sets.{digit}
-use Rattle.conditions.proofs.Laws.Below.{and_right, by_cases}
+use Rattle.conditions.specs.Conditions.{number}
+use Rattle.conditions.proofs.Laws.Below.{and-swap, by_cases}
 use Rattle.polyvalues.specs.declared.polyvalue.Pair.{Pair}
 use Rattle.polyvalues.specs.declared.polyvalue.Polyvalue.{Polyvalue}
 use Rattle.polyvalues.specs.Values.{equal}
@@ -33,17 +35,17 @@ equal-is x y =
     (λ e. e ∙ sym (not_equal x y (λ q. true≢false (sym ((Decides-int_eq x y).1 q) ∙ e))))
 
 -- two pairs as the derive compares them
-pub pair-same : (p q : Pair) → (int_eq p.value q.value && eqb (assignments p) (assignments q)) ≡ same_pair p q
+pair-same : (p q : Pair) → (int_eq p.value q.value && eqb (assignments p) (assignments q)) ≡ same_pair p q
 pair-same p q = ap (λ (e : Bool). e && eqb (assignments p) (assignments q)) (equal-is p.value q.value)
 
-same_length : (ps qs : List Pair) → same ps qs ≡ true → length ps ≡ length qs
-same_length [] [] e = refl
-same_length [] (q ∷ qs) e = absurd (false≢true e)
-same_length (p ∷ ps) [] e = absurd (false≢true e)
-same_length (p ∷ ps) (q ∷ qs) e = ap suc (same_length ps qs (and_right (equal p.value q.value && eqb (assignments p) (assignments q)) (same ps qs) e))
-
-pub same_not : (ps qs : List Pair) → (length ps ≡ length qs → ⊥) → false ≡ same ps qs
-same_not ps qs n = by_cases (same ps qs) (λ e. absurd (n (same_length ps qs e))) sym
+-- their values are the same, and their conditions
+pub columns-same : (ps qs : List Pair)
+    → (pointwise int_eq (map (λ p. p.value) ps) (map (λ p. p.value) qs) && pointwise (λ c d. eqb (number c) (number d)) (map (λ p. p.condition) ps) (map (λ p. p.condition) qs)) ≡ same ps qs
+columns-same [] [] = refl
+columns-same [] (q ∷ qs) = refl
+columns-same (p ∷ ps) [] = refl
+columns-same (p ∷ ps) (q ∷ qs) =
+    and-swap (int_eq p.value q.value) _ (eqb (assignments p) (assignments q)) _ ∙ ap₂ ◌&&◌ (pair-same p q) (columns-same ps qs)
 
 -- ---- values that occur
 

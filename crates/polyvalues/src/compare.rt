@@ -14,16 +14,8 @@ impl Polyvalue {
     pub fn same(self, other: Polyvalue) -> bool
         ensures { result ≡ same (in_use self) (in_use other) }
     {
-        let n = self.len();
-        if n != other.len() {
-            return false;
-        }
-        for i in 0..n {
-            if self.row(i) != other.row(i) {
-                return false;
-            }
-        }
-        true
+        self.values[..self.len()] == other.values[..other.len()]
+            && self.conditions[..self.len()] == other.conditions[..other.len()]
     }
 
     // Whether a row from one on has the value.

@@ -1,7 +1,7 @@
 // A pair joined among the rows of a polyvalue.
 //
 // The rows are tidy here: those past the count are zero. Values rise only if they did before.
-ghost use Rattle.std.specs.Prelude.{◌≡◌, ◌<◌, ◌≤◌};
+ghost use Rattle.std.specs.Prelude.{◌≡◌, ◌<◌, ◌≤◌, true, false, MatchResult};
 ghost use Rattle.conditions.specs.Places.{places};
 ghost use Rattle.conditions.specs.Conditions.{union};
 ghost use Rattle.polyvalues.specs.Pairs.{pair, assignments};
@@ -11,25 +11,20 @@ ghost use Rattle.polyvalues.specs.Rows.{PlaceOf, has_at, moved};
 
 use crate::polyvalue::{PAIRS, Pair, Polyvalue};
 
-// The first row whose value is not below the new one's.
-fn place_of(q: Polyvalue, new: Pair) -> usize
+// The row in use that has the value, or where a new one goes: before the first higher one.
+fn place_of(q: Polyvalue, value: i16) -> Result<usize, usize>
     requires { q.count ≤ most_pairs }
-    ensures { PlaceOf q new.value result }
+    ensures { MatchResult result (λ k. PlaceOf q value k × (has_at q k value ≡ true)) (λ k. PlaceOf q value k × (has_at q k value ≡ false)) }
 {
-    for k in 0..q.count {
-        if q.row(k).value >= new.value {
-            return k;
+    for (k, v) in q.values[..q.count].iter().enumerate() {
+        if *v == value {
+            return Ok(k);
+        }
+        if *v > value {
+            return Err(k);
         }
     }
-    q.count
-}
-
-// Whether the row is in use and has the new one's value.
-fn has_at(q: Polyvalue, k: usize, new: Pair) -> bool
-    requires { q.count ≤ most_pairs }
-    ensures { result ≡ has_at q k new.value }
-{
-    k < q.count && q.row(k).value == new.value
+    Err(q.count)
 }
 
 // The rows from k to n moved down by one, with a new one at k.
@@ -61,24 +56,27 @@ fn inserted(q: Polyvalue, new: Pair) -> Option<Polyvalue>
     requires { q ≡ packed (in_use q) }
     ensures { result ≡ fitting (insert places new.value (assignments new) (in_use q)) }
 {
-    let k = place_of(q, new);
     let n = q.count;
-    if has_at(q, k, new) {
-        let row = q.row(k);
-        let both = united(row, new);
-        let mut joined = q;
-        joined.values[k] = both.value;
-        joined.conditions[k] = both.condition;
-        return Some(joined);
+    match place_of(q, new.value) {
+        Ok(k) => {
+            let row = q.row(k);
+            let both = united(row, new);
+            let mut joined = q;
+            joined.values[k] = both.value;
+            joined.conditions[k] = both.condition;
+            Some(joined)
+        }
+        Err(k) => {
+            if PAIRS <= n {
+                return None;
+            }
+            let rows = moved(q, k, n, new);
+            Some(Polyvalue {
+                count: n + 1,
+                ..rows
+            })
+        }
     }
-    if PAIRS <= n {
-        return None;
-    }
-    let rows = moved(q, k, n, new);
-    Some(Polyvalue {
-        count: n + 1,
-        ..rows
-    })
 }
 
 // The same, but that an empty condition adds nothing.

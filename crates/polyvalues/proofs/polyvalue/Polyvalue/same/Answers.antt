@@ -1,37 +1,38 @@
-use mathlib.Core.Path.{refl, sym, ◌∙◌}
-use native.Mathlib.Numerals.{add-one}
-use native.Mathlib.Omega.{arith}
-use lib.ListN.{drop_of_length-le}
-use borrow.Author.Tests.{not-true, not-false}
+-- The values in use are the same, and then the conditions.
+use mathlib.Core.Path.{sym, ap, ap₂, ◌∙◌}
+use mathlib.Core.Bool.{Bool, ◌&&◌}
+use mathlib.Core.List.{List, map}
+use lib.Dec.{eqb}
+use lib.IntN.{ℤ}
+use lib.Pointwise.{pointwise}
+use Rattle.std.specs.Ordering.{int_eq}
+use Rattle.conditions.specs.declared.condition.Condition.{Condition}
+use Rattle.conditions.specs.Conditions.{number}
+use Rattle.polyvalues.specs.declared.polyvalue.Pair.{Pair}
 use Rattle.polyvalues.specs.Polyvalues.{in_use}
-use Rattle.polyvalues.proofs.Joining.{in_use-more}
-use Rattle.polyvalues.proofs.Comparing.{same_not, pair-same}
+use Rattle.polyvalues.proofs.Known.{Held, all-rows}
+use Rattle.polyvalues.proofs.Columns.{values-in_use, conditions-in_use}
+use Rattle.polyvalues.proofs.Comparing.{columns-same}
 use Rattle.polyvalues.proofs.polyvalue.Polyvalue.same.Goals as goal
 
-pub returns-then-n-len : goal.returns-then-n-len
-returns-then-n-len c = same_not (in_use c.args.self) (in_use c.args.other) (λ e. c.if-n-len.true (c.len-n.ensures.value ∙ e ∙ sym c.len.ensures.value))
+same_conditions : List Pair → List Pair → Bool
+same_conditions ps qs = pointwise (λ c d. eqb (number c) (number d)) (map (λ p. p.condition) ps) (map (λ p. p.condition) qs)
 
-pub loop-i-init : goal.loop-i-init
-loop-i-init c = (c.if-n-len.false ∙ c.len.ensures.value, refl)
+pub returns-then-eq : goal.returns-then-eq
+unfolding same_conditions
+returns-then-eq c =
+    let held : Held c.args.self = record { values = _; own = c.well_formed.0 } in
+    let other : Held c.args.other = record { values = _; own = c.well_formed.1.0 } in
+    let values = c.eq.ensures ∙ ap₂ (λ (xs ys : List ℤ). pointwise int_eq xs ys) (values-in_use (all-rows held) c.len.ensures.value) (values-in_use (all-rows other) c.len-2.ensures.value) in
+    c.eq-then-eq.ensures
+    ∙ ap₂ (λ (xs ys : List Condition). pointwise (λ c d. eqb (number c) (number d)) xs ys) (conditions-in_use (all-rows held) c.len-then-eq.ensures.value) (conditions-in_use (all-rows other) c.len-then-eq-2.ensures.value)
+    ∙ ap (λ (b : Bool). b && same_conditions (in_use c.args.self) (in_use c.args.other)) (sym c.if-eq.true ∙ values) ∙ columns-same (in_use c.args.self) (in_use c.args.other)
 
-pub returns-then-ne : goal.returns-then-ne
-returns-then-ne c =
-    rw (
-      in_use-more c.args.self c.loop-i.i c.row.ensures (omega (arith, c.len-n.ensures.value)),
-      in_use-more c.args.other c.loop-i.i c.row-in-loop-i.ensures (omega (arith, c.loop-i.invariant.0)),
-      sym (pair-same c.row.result c.row-in-loop-i.result) ∙ not-true _ (sym c.ne.ensures ∙ c.if-ne.true),
-    ) at c.loop-i.invariant.1
-
-pub loop-i-preserved : goal.loop-i-preserved
-loop-i-preserved c = (
-  c.loop-i.invariant.0,
-  rw add-one (rw (
-    in_use-more c.args.self c.loop-i.i c.row.ensures (omega (arith, c.len-n.ensures.value)),
-    in_use-more c.args.other c.loop-i.i c.row-in-loop-i.ensures (omega (arith, c.loop-i.invariant.0)),
-    sym (pair-same c.row.result c.row-in-loop-i.result) ∙ not-false _ (sym c.ne.ensures ∙ c.if-ne.false),
-  ) at c.loop-i.invariant.1),
-)
-
-pub returns : goal.returns
-returns c =
-    rw (drop_of_length-le (in_use c.args.self) {i = c.loop-i.i} (omega (arith, c.len-n.ensures.value)), drop_of_length-le (in_use c.args.other) {i = c.loop-i.i} (omega (arith, c.loop-i.invariant.0))) at c.loop-i.invariant.1
+pub returns-else-eq : goal.returns-else-eq
+unfolding same_conditions
+returns-else-eq c =
+    let held : Held c.args.self = record { values = _; own = c.well_formed.0 } in
+    let other : Held c.args.other = record { values = _; own = c.well_formed.1.0 } in
+    let values = c.eq.ensures ∙ ap₂ (λ (xs ys : List ℤ). pointwise int_eq xs ys) (values-in_use (all-rows held) c.len.ensures.value) (values-in_use (all-rows other) c.len-2.ensures.value) in
+    c.if-eq.false
+    ∙ ap (λ (b : Bool). b && same_conditions (in_use c.args.self) (in_use c.args.other)) (sym c.if-eq.false ∙ values) ∙ columns-same (in_use c.args.self) (in_use c.args.other)
