@@ -53,8 +53,7 @@ fn alternative_under(b: &Book, p: Program, assignment: usize) -> Alternative
             values: [Value(0); ITEMS],
         },
     };
-    for i in 0..b.count {
-        let x = b.items[i];
+    for (i, x) in b.items[..b.count].iter().enumerate() {
         if p.touches(i) {
             let pair = x.held.applying(assignment);
             done = done.with(i, pair);
@@ -92,8 +91,8 @@ fn joined_in(
     ensures rows_after { IfSome result (λ now. RowsAfter places (steps_of p) s (number condition) new count now) }
 {
     let mut now = new;
-    for i in 0..count {
-        now[i] = joined_row(now[i], p.touches(i), s.values[i], condition)?;
+    for (i, x) in now[..count].iter_mut().enumerate() {
+        *x = joined_row(*x, p.touches(i), s.values[i], condition)?;
     }
     Some(now)
 }
@@ -154,16 +153,16 @@ fn nothing_worked() -> Worked
 }
 
 // All alternatives worked out, if there is room for them.
-pub(crate) fn worked_out(b: Book, p: Program) -> Option<Worked>
-    requires b_value { sound places b ≡ true }
-    requires p_value { some_step (outside b.count) (steps_of p) ≡ false }
-    ensures { MatchOption result (too_many places b (steps_of p) ≡ true) (λ w. WorkedOut places b (steps_of p) w) }
+pub(crate) fn worked_out(b: &Book, p: Program) -> Option<Worked>
+    requires b_value { sound places b.now ≡ true }
+    requires p_value { some_step (outside b.now.count) (steps_of p) ≡ false }
+    ensures { MatchOption result (too_many places b.now (steps_of p) ≡ true) (λ w. WorkedOut places b.now (steps_of p) w) }
 {
     let mut done = nothing_worked();
     let mut next: usize = 0;
     // kept: no count: the next one is the lowest assignment that no block has covered yet.
     while next < ASSIGNMENTS {
-        let start = alternative_under(&b, p, next);
+        let start = alternative_under(b, p, next);
         done = done.after(b.count, p, start)?;
         next = done.covered.complement().lowest();
     }
@@ -183,10 +182,9 @@ pub(crate) fn too_many(b: &Book, p: Program, w: &Worked) -> bool
     requires worked_out { WorkedOut places b.now (steps_of p) w.now }
     ensures { result ≡ too_many places b.now (steps_of p) }
 {
-    for i in 0..b.count {
-        if over_room(b.items[i], w.new[i], p.touches(i)) {
-            return true;
-        }
-    }
-    false
+    b.items[..b.count]
+        .iter()
+        .zip(&w.new)
+        .enumerate()
+        .any(|(i, (x, new))| over_room(*x, *new, p.touches(i)))
 }

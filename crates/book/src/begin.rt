@@ -48,6 +48,7 @@ fn begun(mut b: Book, p: Program, w: Worked, room: Room) -> Book
     ensures { result ≡ begun places b (steps_of p) }
 {
     let number = TransactionNumber(b.last.0 + 1);
+    // kept: tried `b.items[..count].iter_mut()`: no fact says what `b.items` holds after that loan ends.
     for i in 0..b.count {
         b.items[i] = begun_item(b.items[i], p.touches(i), w.new[i]);
     }
@@ -83,7 +84,7 @@ fn begin_at(b: Book, p: Program, room: Room) -> Begun
     requires room_value { (room ≡ room_of places b (steps_of p)) × (room.place < places) × (b.last.0 < last_number) }
     ensures { result ≡ begins places (cond (too_many places b (steps_of p)) (Err Refusal.TooManyValues) (Ok tt)) b (steps_of p) }
 {
-    let Some(w) = worked_out(b, p) else {
+    let Some(w) = worked_out(&b, p) else {
         return refused(b, Refusal::TooManyValues);
     };
     if too_many(&b, p, &w) {
