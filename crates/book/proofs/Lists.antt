@@ -81,6 +81,11 @@ unfolding any
 any_same zero f g e = refl
 any_same (suc k) f g e = ap₂ ◌||◌ (any_same k f g (λ i h. e i (omega arith))) (e k (omega arith))
 
+-- of the rows of `&xs[..n]`
+pub any_taken : {A : Type 0} (p : ℕ → A → Bool) (z : A) (n : ℕ) (xs : List A) → n ≤ length xs → any (length (take n xs)) (λ i. p i (get_or (take n xs) i z)) ≡ any n (λ i. p i (get_or xs i z))
+any_taken p z n xs h =
+    ap (λ (k : ℕ). any k (λ i. p i (get_or (take n xs) i z))) (length-take-le n xs h) ∙ any_same n _ _ (λ i l. ap (p i) (get_or-take n xs i z l))
+
 module _ {A : Type 0} (z : A) (n : ℕ) (xs : List A) (h : n ≤ length xs) where
   numbered : List (ℕ × A)
   numbered = enumerate_from 0 (take n xs)

@@ -128,7 +128,7 @@ impl Book {
         for (i, x) in self.items[..self.count].iter().enumerate() {
             set = with_district(set, p.touches(i), x.district);
         }
-        if some_busy(self.records, self.districts, set) {
+        if some_busy(&self.records[..self.districts], set) {
             return Err(Refusal::NotIdle);
         }
         let Some(q) = free_place(self.open) else {

@@ -42,7 +42,7 @@ fn decided(mut b: Book, q: usize, decision: u8) -> Book
 {
     let number = b.open[q].number;
     b.open[q].decision = decision;
-    if some_on(b.records, b.districts, number.0) {
+    if some_on(&b.records[..b.districts], number) {
         return b;
     }
     if b.items[..b.count]

@@ -18,7 +18,7 @@ use polyvalues::Polyvalue;
 fn is_concerned(x: Item, records: [Record; DISTRICTS], at: Site) -> bool
     ensures { (b : Book) → b.records ≡ records → result ≡ concerned b at.number.0 at.district x }
 {
-    x.district == at.district && district_on(records, x.district) == at.number.0
+    x.district == at.district && district_on(records, x.district) == at.number
 }
 
 // Pending is held.
