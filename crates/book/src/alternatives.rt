@@ -42,6 +42,7 @@ impl Alternative {
 }
 
 // The block of the assignment, and the held values that it chooses.
+// kept: the bound stays: an unsound book may be handed in, so the count of a `&Book` has no invariant.
 fn alternative_under(b: &Book, p: Program, assignment: usize) -> Alternative
     requires { b.now.count ≤ most_items }
     ensures condition_value { number result.condition ≡ block places b.now (steps_of p) assignment }
@@ -79,6 +80,7 @@ fn joined_row(
 
 // The results of a run, which stand under the condition, joined in for each touched item, if there is
 // room for them.
+// kept: the bound stays: the count is that of a book, and has no invariant there (unsound books are handed in).
 fn joined_in(
     new: [Polyvalue; ITEMS],
     count: usize,
@@ -101,6 +103,7 @@ fn joined_in(
 // assignments, and the new polyvalues of the touched items.
 #[derive(Clone, Copy)]
 pub struct Worked {
+    // kept: two flags: `Covers` speaks of both, and under a book's assignments both may hold.
     pub declines: bool,
     pub grants: bool,
     pub covered: Condition,
@@ -128,7 +131,7 @@ impl Worked {
     }
 
     // 1 if no assignment declines, 0 if all do, 2 otherwise.
-    // kept: a number: `Begun.grant`, `Begin.grant` and the sheet's line hold the document's own.
+    // kept: a number: what may not change: the definition `Begin.grant` gives the document's number.
     pub(crate) fn granted(&self) -> u8
         ensures { result ≡ grant_of self.now.declines self.now.grants }
     {
@@ -177,6 +180,7 @@ fn over_room(x: Item, new: Polyvalue, touched: bool) -> bool
 }
 
 // Whether those of some item are.
+// kept: the bound stays: an unsound book may be handed in, so the count of a `&Book` has no invariant.
 pub(crate) fn too_many(b: &Book, p: Program, w: &Worked) -> bool
     requires count_le_most_items { b.now.count ≤ most_items }
     requires worked_out { WorkedOut places b.now (steps_of p) w.now }

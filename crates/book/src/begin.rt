@@ -119,7 +119,7 @@ impl Book {
         Ok(p)
     }
 
-    // What it takes: 5, 6, 7.
+    // The room that the program takes as it begins: 5, 6, 7.
     fn room(&self, p: Program) -> Result<Room, Refusal>
         requires { sound places self.now ≡ true }
         ensures { result ≡ result_and (first_of (room_tests places self.now (steps_of p))) (Ok (room_of places self.now (steps_of p))) }
@@ -143,7 +143,7 @@ impl Book {
         })
     }
 
-    // Both, one after the other: all tests but 8.
+    // The program and its room, one test after the other: all but 8.
     fn may_begin(&self, bytes: &[u8]) -> Result<(Program, Room), Refusal>
         ensures { result ≡ result_and (first_of (program_tests places self.now bytes.now ++ room_tests places self.now (steps bytes.now))) (Ok (program_of (steps bytes.now), room_of places self.now (steps bytes.now))) }
     {
@@ -152,7 +152,7 @@ impl Book {
         Ok((p, room))
     }
 
-    // The call: the program's bytes.
+    // Begin, the call: it is handed the program's bytes.
     pub fn begin(self, bytes: &[u8]) -> Begun
         ensures { result ≡ begin places self bytes.now }
     {

@@ -15,6 +15,7 @@ use conditions::TransactionNumber;
 use polyvalues::{PAIRS, Polyvalue};
 
 // Whether two polyvalues are the same, rows past the count too.
+// kept: not inline: its clause ties `==` to the definition `SoundTest.same_polyvalue`.
 fn same_polyvalue(q: Polyvalue, other: Polyvalue) -> bool
     ensures { result ≡ same_polyvalue q other }
 {
@@ -22,6 +23,7 @@ fn same_polyvalue(q: Polyvalue, other: Polyvalue) -> bool
 }
 
 // Whether an item holds zeros.
+// kept: not inline: its clause ties the test to the definition `SoundTest.same_item`.
 fn zero_row(x: Item) -> bool
     ensures { result ≡ same_item x no_item }
 {

@@ -80,7 +80,7 @@ pub(crate) fn some_on(records: &[Record], n: TransactionNumber) -> bool
 fn is_named(o: Open, n: TransactionNumber) -> bool
     ensures { result ≡ named n.0 o }
 {
-    o.number.0 != 0 && o.number.0 == n.0
+    o.number.0 != 0 && o.number == n
 }
 
 // The place of the open transaction with the number.
