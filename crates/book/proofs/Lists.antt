@@ -2,7 +2,7 @@
 use mathlib.Core.Path.{◌≡◌, refl, sym, ap, ap₂, ◌∙◌}
 use mathlib.Core.Bool.{Bool, true, false, not, ◌&&◌, ◌||◌, cond}
 use mathlib.Core.List.{List, [], ◌∷◌}
-use Prim.Native.Nat.{ℕ, zero, suc, ◌+◌, ◌-◌, ◌≤◌, ◌<◌}
+use Prim.Native.Nat.{ℕ, zero, suc, ◌+◌, ◌-◌, ◌≤◌, ◌<◌, min}
 use native.Mathlib.Numerals.{add-one, one-add}
 use native.Mathlib.Omega.{arith}
 use lib.Dec.{ltb}
@@ -15,10 +15,14 @@ use Rattle.std.specs.List.{list_any, list_all, position_or_len, enumerate_from, 
 use Rattle.std.proofs.Common.{Some, None}
 use Rattle.std.proofs.lemmas.List.Folds.{list_any_more, list_all_more}
 use Rattle.std.proofs.lemmas.List.FromFn.{length-enumerate_from, get_or-enumerate_from, length-range_with_len, get_or-range_with_len}
-use Rattle.std.proofs.lemmas.List.{length-take-le, length-drop, get_or-take, get_or-drop}
+use Rattle.std.proofs.lemmas.List.{take_min, length-take-le, length-drop, get_or-take, get_or-drop}
 use Rattle.conditions.specs.Below.{any, all, first}
 use Rattle.conditions.proofs.Laws.Below.{all_same, by_cases}
 use Rattle.book.specs.Found.{found}
+
+-- `&xs[..n.min(m)]`
+pub taken : {A : Type 0} (n m : ℕ) (xs : List A) → length xs ≡ m → take (min n m) xs ≡ take n xs
+taken n m xs e = rw (← e) (take_min n xs)
 
 pub any_rows : {A : Type 0} (p : A → Bool) (z : A) (n : ℕ) (xs : List A) → n ≤ length xs → list_any p (take n xs) ≡ any n (λ i. p (get_or xs i z))
 unfolding any
@@ -72,10 +76,15 @@ found_none w n e = by_cases (ltb n w) (λ t. absurd (none-some n (sym (rw t at e
 
 -- ---- rows with their numbers beside them
 
-any_same : (k : ℕ) (f g : ℕ → Bool) → ((i : ℕ) → i < k → f i ≡ g i) → any k f ≡ any k g
+pub any_same : (k : ℕ) (f g : ℕ → Bool) → ((i : ℕ) → i < k → f i ≡ g i) → any k f ≡ any k g
 unfolding any
 any_same zero f g e = refl
 any_same (suc k) f g e = ap₂ ◌||◌ (any_same k f g (λ i h. e i (omega arith))) (e k (omega arith))
+
+-- of the rows of `&xs[..n]`
+pub any_taken : {A : Type 0} (p : ℕ → A → Bool) (z : A) (n : ℕ) (xs : List A) → n ≤ length xs → any (length (take n xs)) (λ i. p i (get_or (take n xs) i z)) ≡ any n (λ i. p i (get_or xs i z))
+any_taken p z n xs h =
+    ap (λ (k : ℕ). any k (λ i. p i (get_or (take n xs) i z))) (length-take-le n xs h) ∙ any_same n _ _ (λ i l. ap (p i) (get_or-take n xs i z l))
 
 module _ {A : Type 0} (z : A) (n : ℕ) (xs : List A) (h : n ≤ length xs) where
   numbered : List (ℕ × A)

@@ -2,14 +2,13 @@
 use mathlib.Core.Path.{◌≡◌, refl, sym, ap, ap₂, ◌∙◌}
 use mathlib.Core.Bool.{Bool, false, not, ◌||◌}
 use mathlib.Core.List.{List, [], ◌∷◌, ◌++◌, map-id}
-use Prim.Native.Nat.{ℕ, ◌+◌, ◌-◌, ◌*◌, ◌%◌, ◌≤◌, ◌<◌, min}
+use Prim.Native.Nat.{ℕ, ◌+◌, ◌-◌, ◌*◌, ◌%◌, ◌≤◌, ◌<◌}
 use native.Mathlib.Nat.{add_comm}
 use lib.Dec.{eqb}
 use lib.IntN.{ℤ}
 use lib.ListN.{length, get_or, take, replicate}
 use lib.Seq.{take-length, take-append_seam}
 use Rattle.std.specs.List.{list_any}
-use Rattle.std.proofs.lemmas.List.{take_min}
 use borrow.Author.Tests.{ltb-false}
 use Rattle.conditions.proofs.Laws.Below.{or_left, or_right}
 use Rattle.polyvalues.specs.Values.{of_bytes}
@@ -21,11 +20,6 @@ use Rattle.book.specs.States.{no_step, steps_of, program_of}
 use Rattle.book.proofs.Laws.Steps.{get_or-steps}
 use Rattle.book.proofs.Filling.{filled_upto}
 use Rattle.book.proofs.Naming.{some-none}
-
--- ---- the steps in use
-
-pub steps-taken : (n m : ℕ) (xs : List Step) → length xs ≡ m → take (min n m) xs ≡ take n xs
-steps-taken n m xs e = rw (← e) (take_min n xs)
 
 -- ---- a program as bytes
 

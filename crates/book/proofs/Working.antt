@@ -1,15 +1,16 @@
 -- Begin's work as the code does it: alternative by alternative, item by item.
 use mathlib.Core.Path.{◌≡◌, refl, sym, ap, ap₂, ◌∙◌}
 use mathlib.Core.Bool.{Bool, true, false, not, ◌&&◌, ◌||◌, true≢false, or-true, not-not}
-use mathlib.Core.List.{List, []}
+use mathlib.Core.List.{List, [], ◌++◌}
 use Prim.Native.Nat.{ℕ, suc, ◌^◌, ◌≤◌, ◌<◌}
 use native.Mathlib.Omega.{arith}
 use lib.Dec.{eqb, ltb}
 use lib.IntN.{ℤ}
-use lib.ListN.{length, get_or, set, length-set, get_or-replicate}
+use lib.ListN.{length, get_or, take, set, length-set, get_or-replicate}
 use lib.Seq.{get_or-set_same, get_or-set_other}
 use borrow.Author.Count.{below_more}
 use borrow.Author.Tests.{eq-eqb, ne_eqb, lt-ltb, ltb-true, ltb-false, not-false}
+use Rattle.std.proofs.lemmas.List.{get_or-take, get_or_append_left, length-take-le}
 use Rattle.std.specs.Prelude.{Some, None, is_some}
 use Rattle.conditions.specs.declared.condition.Condition.{Condition}
 use Rattle.conditions.specs.Below.{all, first}
@@ -86,23 +87,27 @@ module _ (b : Book) (xs : List Step) (a k : ℕ) (most : b.count ≤ most_items)
 
 -- ---- the results of a run, item by item
 
--- those below k have been joined in
-pub record Joining (xs : List Step) (s : State) (c : ℕ) (new : List Polyvalue) (k : ℕ) (now : List Polyvalue) : Type 0 where
-  pub long : length now ≡ most_items
+-- of the first count, those below k have been joined in
+pub record Joining (xs : List Step) (s : State) (c : ℕ) (new : List Polyvalue) (count k : ℕ) (now : List Polyvalue) : Type 0 where
+  pub long : length now ≡ count
   pub fits : all k (λ i. is_some (row_after places xs s c new i)) ≡ true
   pub done : RowsAfter places xs s c new k now
-  pub rest : (i : ℕ) → k ≤ i → get_or now i void ≡ get_or new i void
+  pub rest : (i : ℕ) → k ≤ i → i < count → get_or now i void ≡ get_or new i void
 
-module _ (xs : List Step) (s : State) (c : ℕ) (new : List Polyvalue) where
-  pub joining-start : length new ≡ most_items → Joining xs s c new 0 new
+module _ (xs : List Step) (s : State) (c : ℕ) (new : List Polyvalue) (count : ℕ) where
+  pub joining-start : count ≤ length new → Joining xs s c new count 0 (take count new)
   unfolding all
-  joining-start l = record { long = l; fits = refl; done = λ i h. absurd (omega arith); rest = λ i h. refl }
+  joining-start l = record { long = length-take-le count new l; fits = refl; done = λ i h. absurd (omega arith); rest = λ i h m. get_or-take count new i void m }
 
-  module _ (k : ℕ) (h : k < most_items) {now : List Polyvalue} (now-at : Joining xs s c new k now) where
+  -- the others stay as they were
+  pub joining-done : {now : List Polyvalue} (tail : List Polyvalue) → Joining xs s c new count count now → RowsAfter places xs s c new count (now ++ tail)
+  joining-done {now} tail e i h = ap Some (get_or_append_left now tail void i (omega (arith, e.long))) ∙ e.done i h
+
+  module _ (k : ℕ) (h : k < count) {now : List Polyvalue} (now-at : Joining xs s c new count k now) where
     row : joined_row places (touches xs k) (state_of s k) c (get_or now k void) ≡ row_after places xs s c new k
-    row = ap (joined_row places (touches xs k) (state_of s k) c) (now-at.rest k (omega arith))
+    row = ap (joined_row places (touches xs k) (state_of s k) c) (now-at.rest k (omega arith) h)
 
-    pub joining-next : {q : Polyvalue} → Some q ≡ joined_row places (touches xs k) (state_of s k) c (get_or now k void) → Joining xs s c new (suc k) (set now k q)
+    pub joining-next : {q : Polyvalue} → Some q ≡ joined_row places (touches xs k) (state_of s k) c (get_or now k void) → Joining xs s c new count (suc k) (set now k q)
     joining-next {q} e =
         record {
           long = length-set now k q ∙ now-at.long;
@@ -110,11 +115,11 @@ module _ (xs : List Step) (s : State) (c : ℕ) (new : List Polyvalue) where
           done = λ i l. below_more (λ i. Some (get_or (set now k q) i void) ≡ row_after places xs s c new i) k
               (λ i l. ap Some (get_or-set_other now k i q void (λ z. omega arith)) ∙ now-at.done i l)
               (ap Some (get_or-set_same now k q void (omega (arith, now-at.long))) ∙ e ∙ row) i (omega arith);
-          rest = λ i l. get_or-set_other now k i q void (λ z. omega arith) ∙ now-at.rest i (omega arith);
+          rest = λ i l m. get_or-set_other now k i q void (λ z. omega arith) ∙ now-at.rest i (omega arith) m;
         }
 
-    pub joining-fails : (count : ℕ) → k < count → None ≡ joined_row places (touches xs k) (state_of s k) c (get_or now k void) → false ≡ all count (λ i. is_some (row_after places xs s c new i))
-    joining-fails count l e = sym (all-fails count (λ i. is_some (row_after places xs s c new i)) k l (ap is_some (sym (e ∙ row))))
+    pub joining-fails : None ≡ joined_row places (touches xs k) (state_of s k) c (get_or now k void) → false ≡ all count (λ i. is_some (row_after places xs s c new i))
+    joining-fails e = sym (all-fails count (λ i. is_some (row_after places xs s c new i)) k h (ap is_some (sym (e ∙ row))))
 
 -- ---- one more alternative
 

@@ -42,6 +42,7 @@ impl Alternative {
 }
 
 // The block of the assignment, and the held values that it chooses.
+// kept: the bound stays: an unsound book may be handed in, so the count of a `&Book` has no invariant.
 fn alternative_under(b: &Book, p: Program, assignment: usize) -> Alternative
     requires { b.now.count ≤ most_items }
     ensures condition_value { number result.condition ≡ block places b.now (steps_of p) assignment }
@@ -53,8 +54,7 @@ fn alternative_under(b: &Book, p: Program, assignment: usize) -> Alternative
             values: [Value(0); ITEMS],
         },
     };
-    for i in 0..b.count {
-        let x = b.items[i];
+    for (i, x) in b.items[..b.count].iter().enumerate() {
         if p.touches(i) {
             let pair = x.held.applying(assignment);
             done = done.with(i, pair);
@@ -80,6 +80,7 @@ fn joined_row(
 
 // The results of a run, which stand under the condition, joined in for each touched item, if there is
 // room for them.
+// kept: the bound stays: the count is that of a book, and has no invariant there (unsound books are handed in).
 fn joined_in(
     new: [Polyvalue; ITEMS],
     count: usize,
@@ -92,8 +93,8 @@ fn joined_in(
     ensures rows_after { IfSome result (λ now. RowsAfter places (steps_of p) s (number condition) new count now) }
 {
     let mut now = new;
-    for i in 0..count {
-        now[i] = joined_row(now[i], p.touches(i), s.values[i], condition)?;
+    for (i, x) in now[..count].iter_mut().enumerate() {
+        *x = joined_row(*x, p.touches(i), s.values[i], condition)?;
     }
     Some(now)
 }
@@ -102,6 +103,7 @@ fn joined_in(
 // assignments, and the new polyvalues of the touched items.
 #[derive(Clone, Copy)]
 pub struct Worked {
+    // kept: two flags: `Covers` speaks of both, and under a book's assignments both may hold.
     pub declines: bool,
     pub grants: bool,
     pub covered: Condition,
@@ -129,7 +131,7 @@ impl Worked {
     }
 
     // 1 if no assignment declines, 0 if all do, 2 otherwise.
-    // kept: a number: `Begun.grant`, `Begin.grant` and the sheet's line hold the document's own.
+    // kept: a number: what may not change: the definition `Begin.grant` gives the document's number.
     pub(crate) fn granted(&self) -> u8
         ensures { result ≡ grant_of self.now.declines self.now.grants }
     {
@@ -154,16 +156,16 @@ fn nothing_worked() -> Worked
 }
 
 // All alternatives worked out, if there is room for them.
-pub(crate) fn worked_out(b: Book, p: Program) -> Option<Worked>
-    requires b_value { sound places b ≡ true }
-    requires p_value { some_step (outside b.count) (steps_of p) ≡ false }
-    ensures { MatchOption result (too_many places b (steps_of p) ≡ true) (λ w. WorkedOut places b (steps_of p) w) }
+pub(crate) fn worked_out(b: &Book, p: Program) -> Option<Worked>
+    requires b_value { sound places b.now ≡ true }
+    requires p_value { some_step (outside b.now.count) (steps_of p) ≡ false }
+    ensures { MatchOption result (too_many places b.now (steps_of p) ≡ true) (λ w. WorkedOut places b.now (steps_of p) w) }
 {
     let mut done = nothing_worked();
     let mut next: usize = 0;
     // kept: no count: the next one is the lowest assignment that no block has covered yet.
     while next < ASSIGNMENTS {
-        let start = alternative_under(&b, p, next);
+        let start = alternative_under(b, p, next);
         done = done.after(b.count, p, start)?;
         next = done.covered.complement().lowest();
     }
@@ -178,15 +180,15 @@ fn over_room(x: Item, new: Polyvalue, touched: bool) -> bool
 }
 
 // Whether those of some item are.
+// kept: the bound stays: an unsound book may be handed in, so the count of a `&Book` has no invariant.
 pub(crate) fn too_many(b: &Book, p: Program, w: &Worked) -> bool
     requires count_le_most_items { b.now.count ≤ most_items }
     requires worked_out { WorkedOut places b.now (steps_of p) w.now }
     ensures { result ≡ too_many places b.now (steps_of p) }
 {
-    for i in 0..b.count {
-        if over_room(b.items[i], w.new[i], p.touches(i)) {
-            return true;
-        }
-    }
-    false
+    b.items[..b.count]
+        .iter()
+        .zip(&w.new)
+        .enumerate()
+        .any(|(i, (x, new))| over_room(*x, *new, p.touches(i)))
 }

@@ -48,6 +48,7 @@ fn begun(mut b: Book, p: Program, w: Worked, room: Room) -> Book
     ensures { result ≡ begun places b (steps_of p) }
 {
     let number = TransactionNumber(b.last.0 + 1);
+    // kept: tried `b.items[..count].iter_mut()`: no fact says what `b.items` holds after that loan ends.
     for i in 0..b.count {
         b.items[i] = begun_item(b.items[i], p.touches(i), w.new[i]);
     }
@@ -83,7 +84,7 @@ fn begin_at(b: Book, p: Program, room: Room) -> Begun
     requires room_value { (room ≡ room_of places b (steps_of p)) × (room.place < places) × (b.last.0 < last_number) }
     ensures { result ≡ begins places (cond (too_many places b (steps_of p)) (Err Refusal.TooManyValues) (Ok tt)) b (steps_of p) }
 {
-    let Some(w) = worked_out(b, p) else {
+    let Some(w) = worked_out(&b, p) else {
         return refused(b, Refusal::TooManyValues);
     };
     if too_many(&b, p, &w) {
@@ -118,7 +119,7 @@ impl Book {
         Ok(p)
     }
 
-    // What it takes: 5, 6, 7.
+    // The room that the program takes as it begins: 5, 6, 7.
     fn room(&self, p: Program) -> Result<Room, Refusal>
         requires { sound places self.now ≡ true }
         ensures { result ≡ result_and (first_of (room_tests places self.now (steps_of p))) (Ok (room_of places self.now (steps_of p))) }
@@ -127,7 +128,7 @@ impl Book {
         for (i, x) in self.items[..self.count].iter().enumerate() {
             set = with_district(set, p.touches(i), x.district);
         }
-        if some_busy(self.records, self.districts, set) {
+        if some_busy(&self.records[..self.districts], set) {
             return Err(Refusal::NotIdle);
         }
         let Some(q) = free_place(self.open) else {
@@ -142,7 +143,7 @@ impl Book {
         })
     }
 
-    // Both, one after the other: all tests but 8.
+    // The program and its room, one test after the other: all but 8.
     fn may_begin(&self, bytes: &[u8]) -> Result<(Program, Room), Refusal>
         ensures { result ≡ result_and (first_of (program_tests places self.now bytes.now ++ room_tests places self.now (steps bytes.now))) (Ok (program_of (steps bytes.now), room_of places self.now (steps bytes.now))) }
     {
@@ -151,7 +152,7 @@ impl Book {
         Ok((p, room))
     }
 
-    // The call: the program's bytes.
+    // Begin, the call: it is handed the program's bytes.
     pub fn begin(self, bytes: &[u8]) -> Begun
         ensures { result ≡ begin places self bytes.now }
     {

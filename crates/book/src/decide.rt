@@ -75,7 +75,7 @@ fn decided(mut b: Book, q: usize, decision: Decision) -> Book
 {
     let number = b.open[q].number;
     b.open[q].decision = decision.number();
-    if some_on(b.records, b.districts, number.0) {
+    if some_on(&b.records[..b.districts], number) {
         return b;
     }
     if b.items[..b.count]

@@ -38,7 +38,7 @@ pub(crate) fn is_kept(t: Tables, q: usize, o: Open) -> bool
     if !o.is_decided() {
         return true;
     }
-    some_on(t.records, t.districts, o.number.0) || has(t.depended, q)
+    some_on(&t.records[..t.districts], o.number) || has(t.depended, q)
 }
 
 // What a place holds afterwards: a transaction that does not stay is closed.

@@ -15,6 +15,7 @@ use conditions::TransactionNumber;
 use polyvalues::{PAIRS, Polyvalue};
 
 // Whether two polyvalues are the same, rows past the count too.
+// kept: not inline: its clause ties `==` to the definition `SoundTest.same_polyvalue`.
 fn same_polyvalue(q: Polyvalue, other: Polyvalue) -> bool
     ensures { result ≡ same_polyvalue q other }
 {
@@ -22,6 +23,7 @@ fn same_polyvalue(q: Polyvalue, other: Polyvalue) -> bool
 }
 
 // Whether an item holds zeros.
+// kept: not inline: its clause ties the test to the definition `SoundTest.same_item`.
 fn zero_row(x: Item) -> bool
     ensures { result ≡ same_item x no_item }
 {
@@ -48,8 +50,8 @@ fn sound_idle(x: Item) -> bool
 
 // Whether an item of a district that is on the transaction number n is sound: that transaction's place
 // is none of those that it depends on, its places.
-fn sound_taken(b: &Book, n: u16, x: Item, its: u8) -> bool
-    ensures { its ≡ set_of place_count (item_depends place_count x) → result ≡ (sound_polyvalue place_count x.held && sound_polyvalue place_count x.pending && not (item_depends place_count x (place_of place_count b.now n)) && leb (together (in_use x.held) (in_use x.pending)) most_pairs) }
+fn sound_taken(b: &Book, n: TransactionNumber, x: Item, its: u8) -> bool
+    ensures { its ≡ set_of place_count (item_depends place_count x) → result ≡ (sound_polyvalue place_count x.held && sound_polyvalue place_count x.pending && not (item_depends place_count x (place_of place_count b.now n.0)) && leb (together (in_use x.held) (in_use x.pending)) most_pairs) }
 {
     if !x.held.is_sound() {
         return false;
@@ -57,7 +59,7 @@ fn sound_taken(b: &Book, n: u16, x: Item, its: u8) -> bool
     if !x.pending.is_sound() {
         return false;
     }
-    if place_of(b.open, TransactionNumber(n)).is_some_and(|q| has(its, q)) {
+    if place_of(b.open, n).is_some_and(|q| has(its, q)) {
         return false;
     }
     x.held.together(x.pending) <= PAIRS
@@ -71,7 +73,7 @@ pub(crate) fn sound_row(b: &Book, x: Item, its: u8) -> bool
         return false;
     }
     let n = district_on(b.records, x.district);
-    if n == 0 {
+    if n.0 == 0 {
         sound_idle(x)
     } else {
         sound_taken(b, n, x, its)

@@ -15,10 +15,11 @@ use conditions::Place;
 use polyvalues::Polyvalue;
 
 // Whether the item is in the district and on the transaction.
+// kept: records apart, not a `&Book`: the book's items are changed while its records are read.
 fn is_concerned(x: Item, records: [Record; DISTRICTS], at: Site) -> bool
     ensures { (b : Book) → b.records ≡ records → result ≡ concerned b at.number.0 at.district x }
 {
-    x.district == at.district && district_on(records, x.district) == at.number.0
+    x.district == at.district && district_on(records, x.district) == at.number
 }
 
 // Pending is held.

@@ -1,5 +1,5 @@
 // Open: a new book, made of the count of districts and each item's district and value.
-ghost use Rattle.std.specs.Prelude.{◌≡◌, ◌++◌, map, ◌-◌, ◌≤◌, replicate};
+ghost use Rattle.std.specs.Prelude.{◌≡◌, ◌++◌, map, ◌-◌, length, replicate};
 ghost use Rattle.conditions.specs.Places.{places};
 ghost use Rattle.book.specs.Book.{most_items, no_item, no_book};
 ghost use Rattle.book.specs.Open.{good_item, good_items, good_opening, opened_item};
@@ -68,34 +68,37 @@ impl Opening {
 }
 
 impl Openings {
+    // The items that count: any count may be handed in.
+    fn items(&self) -> &[Opening]
+        ensures { result.now ≡ openings_of self.now }
+    {
+        &self.items[..self.count.min(ITEMS)]
+    }
+
     // Whether each item is good.
     fn are_good(self, districts: usize) -> bool
-        requires { self.count ≤ most_items }
         ensures { result ≡ good_items districts (openings_of self) }
     {
-        self.items[..self.count]
-            .iter()
-            .all(|x| x.is_good(districts))
+        self.items().iter().all(|x| x.is_good(districts))
     }
 
     // Whether they and the count of districts open a book.
     fn open_a_book(self, districts: usize) -> bool
-        requires { self.count ≤ most_items }
         ensures { result ≡ good_opening districts (openings_of self) }
     {
-        good_counts(districts, self.count) && self.are_good(districts)
+        good_counts(districts, self.items().len()) && self.are_good(districts)
     }
 
     // The rows of items of the book.
     fn rows(self) -> [Item; ITEMS]
-        requires { self.count ≤ most_items }
-        ensures { result ≡ map (opened_item places) (openings_of self) ++ replicate (most_items - self.count) no_item }
+        ensures { result ≡ map (opened_item places) (openings_of self) ++ replicate (most_items - length (openings_of self)) no_item }
     {
-        let mut items = [zero_item(); ITEMS];
-        for i in 0..self.count {
-            items[i] = self.items[i].opened();
+        let mut rows = [zero_item(); ITEMS];
+        let items = self.items();
+        for (i, x) in items.iter().enumerate() {
+            rows[i] = x.opened();
         }
-        items
+        rows
     }
 }
 

@@ -15,6 +15,7 @@ use crate::tables::{FREE, Tables};
 use conditions::{PLACES, TransactionNumber};
 
 // Whether a place holds zeros.
+// kept: not inline: its clause ties `==` to the definition `SoundTest.zero_open`, which sound_place shows.
 fn zero_open(o: Open) -> bool
     ensures { result ≡ zero_open o }
 {
@@ -22,6 +23,7 @@ fn zero_open(o: Open) -> bool
 }
 
 // Whether a set of districts has only those below the count.
+// kept: the bound stays: the shift needs it, and `Tables` shows it by its ghost field.
 fn is_within(set: u8, districts: usize) -> bool
     requires { districts ≤ most_districts }
     ensures { result ≡ ltb set (2 ^ districts) }
@@ -83,6 +85,7 @@ fn sound_open(t: Tables, q: usize, o: Open) -> bool
     if !number_differs(t.open, q, o.number) {
         return false;
     }
+    // kept: tried `t.last < o.number`: `search` gave up on the derived order.
     if t.last.0 < o.number.0 {
         return false;
     }
@@ -108,6 +111,7 @@ fn sound_place(t: Tables, q: usize) -> bool
 pub(crate) fn sound_places(t: Tables) -> bool
     ensures { (b : Book) → TablesOf place_count b t → result ≡ all place_count (sound_place place_count b) }
 {
+    // kept: tried `(0..PLACES).all(..)`: what is inferred of the closure hides sound_place's own clause.
     for q in 0..PLACES {
         if !sound_place(t, q) {
             return false;

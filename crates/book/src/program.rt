@@ -12,6 +12,13 @@ use polyvalues::of_bytes;
 // How many steps a program may have.
 const STEPS: usize = 8;
 
+// The row past the last step.
+const NO_STEP: Step = Step {
+    kind: 0,
+    item: 0,
+    operand: 0,
+};
+
 // The first `count` steps count; the rows past them are zero.
 // kept: fixed memory is a rule of the project, so the count stands beside the rows.
 #[derive(Clone, Copy)]
@@ -61,12 +68,8 @@ pub(crate) fn read(bytes: &[u8]) -> Program
     ensures { result ≡ program_of (steps bytes.now) }
 {
     let n = bytes.len() / 4;
-    let blank = Step {
-        kind: 0,
-        item: 0,
-        operand: 0,
-    };
-    let mut steps = [blank; STEPS];
+    let mut steps = [NO_STEP; STEPS];
+    // kept: `bytes.chunks_exact(4)` would need a second step_at, of four bytes: no plainer.
     for i in 0..n {
         steps[i] = step_at(bytes, i);
     }

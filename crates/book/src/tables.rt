@@ -1,6 +1,7 @@
 // What one reads off the tables of a book.
 ghost use Rattle.std.specs.Prelude.{◌≡◌, true, false, not, ℕ, ◌≤◌, eqb, get_or};
-ghost use Rattle.conditions.specs.Below.{any, first};
+ghost use Rattle.std.specs.List.{list_any};
+ghost use Rattle.conditions.specs.Below.{first};
 ghost use Rattle.conditions.specs.Places.{places as place_count};
 ghost use Rattle.conditions.specs.Sets.{set_of};
 ghost use Rattle.polyvalues.specs.Pairs.{depends};
@@ -48,35 +49,38 @@ pub struct Tables {
 }
 
 // The number of the transaction that a district with this record is on, 0 where it is idle.
-pub(crate) fn record_on(r: Record) -> u16
-    ensures { result ≡ record_on r }
+// kept: no Option: `Book.record_on` is 0 for none, and `some_on`, `concerned` compare that with 0 too.
+pub(crate) fn record_on(r: Record) -> TransactionNumber
+    ensures { result.0 ≡ record_on r }
 {
-    if r.phase == IDLE { 0 } else { r.transaction.0 }
+    if r.phase == IDLE {
+        TransactionNumber(0)
+    } else {
+        r.transaction
+    }
 }
 
 // The number of the transaction that the items of a district are on.
-pub(crate) fn district_on(records: [Record; DISTRICTS], district: u8) -> u16
-    ensures { result ≡ record_on (get_or records district no_record) }
+pub(crate) fn district_on(records: [Record; DISTRICTS], district: u8) -> TransactionNumber
+    ensures { result.0 ≡ record_on (get_or records district no_record) }
 {
     records
         .get(usize::from(district))
-        .map_or(0, |r| record_on(*r))
+        .map_or(TransactionNumber(0), |r| record_on(*r))
 }
 
-// Whether a district is on the transaction.
-// kept: lent `&records[..districts]`, each caller would have to show the same bound there: no plainer.
-pub(crate) fn some_on(records: [Record; DISTRICTS], districts: usize, n: u16) -> bool
-    requires { districts ≤ most_districts }
-    ensures { result ≡ any districts (λ d. eqb (record_on (get_or records d no_record)) n) }
+// Whether a district with one of these records is on the transaction.
+pub(crate) fn some_on(records: &[Record], n: TransactionNumber) -> bool
+    ensures { result ≡ list_any (λ r. eqb (record_on r) n.0) records.now }
 {
-    records[..districts].iter().any(|r| record_on(*r) == n)
+    records.iter().any(|r| record_on(*r) == n)
 }
 
 // Whether the transaction at a place has the number.
 fn is_named(o: Open, n: TransactionNumber) -> bool
     ensures { result ≡ named n.0 o }
 {
-    o.number.0 != 0 && o.number.0 == n.0
+    o.number.0 != 0 && o.number == n
 }
 
 // The place of the open transaction with the number.
@@ -104,7 +108,7 @@ pub(crate) fn item_depends(x: Item, q: Place) -> bool
 fn is_certain(p: Polyvalue) -> bool
     ensures { result ≡ true → (q : ℕ) → depends place_count (in_use p) q ≡ false }
 {
-    p.count == 1 && p.conditions[0].same(Condition::FULL)
+    p.count == 1 && p.conditions[0] == Condition::FULL
 }
 
 // Whether both of the item's are.

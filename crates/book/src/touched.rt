@@ -1,5 +1,5 @@
 // What a program touches: districts and their items.
-ghost use Rattle.std.specs.Prelude.{◌≡◌, not, ◌&&◌, ◌||◌, cond, ℕ, ◌<◌, ◌≤◌, eqb, get_or};
+ghost use Rattle.std.specs.Prelude.{◌≡◌, not, ◌&&◌, ◌||◌, cond, ℕ, ◌<◌, ◌≤◌, eqb, get_or, length};
 ghost use Rattle.conditions.specs.Below.{any};
 ghost use Rattle.conditions.specs.Sets.{member};
 ghost use Rattle.book.specs.Book.{most_districts, no_record, record_on};
@@ -28,19 +28,14 @@ pub(crate) fn with_district(set: u8, is_touched: bool, district: u8) -> u8
 fn is_busy(r: Record, set: u8, d: usize) -> bool
     ensures { result ≡ (member set d && not (eqb (record_on r) 0)) }
 {
-    has(set, d) && record_on(r) != 0
+    has(set, d) && record_on(r).0 != 0
 }
 
 // Whether a district of the set is.
-// kept: lent `&records[..districts]`, each caller would have to show the same bound there: no plainer.
-pub(crate) fn some_busy(records: [Record; DISTRICTS], districts: usize, set: u8) -> bool
-    requires { districts ≤ most_districts }
-    ensures { result ≡ any districts (λ d. member set d && not (eqb (record_on (get_or records d no_record)) 0)) }
+pub(crate) fn some_busy(records: &[Record], set: u8) -> bool
+    ensures { result ≡ any (length records.now) (λ d. member set d && not (eqb (record_on (get_or records.now d no_record)) 0)) }
 {
-    records[..districts]
-        .iter()
-        .enumerate()
-        .any(|(d, r)| is_busy(*r, set, d))
+    records.iter().enumerate().any(|(d, r)| is_busy(*r, set, d))
 }
 
 // The record of the district d when the districts of the set begin to compute.
@@ -58,6 +53,7 @@ fn begun_record(r: Record, set: u8, d: usize, n: TransactionNumber) -> Record
 }
 
 // The records, where each district of the set computes on the transaction.
+// kept: it gives the array back: after a loan of a slice of a field no fact says what that field holds (`begun`).
 pub(crate) fn begun_records(
     records: [Record; DISTRICTS],
     districts: usize,

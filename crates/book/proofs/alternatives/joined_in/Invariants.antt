@@ -5,4 +5,4 @@ use Rattle.book.proofs.Working.{Joining}
 use Rattle.book.proofs.alternatives.joined_in.Given as goal
 
 abbrev pub invariant-loop-i : goal.invariant-loop-i
-invariant-loop-i l = Joining (steps_of l.p) l.s (number l.condition) l.initial.now l.i l.now
+invariant-loop-i l = Joining (steps_of l.p) l.s (number l.condition) l.fn.new l.count l.i l.x-items

@@ -25,10 +25,10 @@ pub returns-then-not-is_sound-2 : goal.returns-then-not-is_sound-2
 returns-then-not-is_sound-2 c = λ f. rw (sym c.is_sound-2.ensures ∙ c.if-not-is_sound-2.true, and-false)
 
 -- whether the item depends on its own transaction's place: on none, where that is open nowhere
-own : (c : After-is_some_and) → c.args.its ≡ set_of places (item_depends places c.args.x) → c.is_some_and.result ≡ item_depends places c.args.x (place_of places c.args.b.now c.args.n)
+own : (c : After-is_some_and) → c.args.its ≡ set_of places (item_depends places c.args.x) → c.is_some_and.result ≡ item_depends places c.args.x (place_of places c.args.b.now c.args.n.0)
 unfolding found place_of
 own c f =
-    let q : ℕ = place_of places c.args.b.now c.args.n in
+    let q : ℕ = place_of places c.args.b.now c.args.n.0 in
     by_cases (ltb q places)
     (λ t.
     let at : c.place_of.result ≡ Some q = c.place_of.ensures ∙ rw t in

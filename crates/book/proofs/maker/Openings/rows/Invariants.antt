@@ -7,4 +7,4 @@ use Rattle.book.proofs.Filling.{filled_upto}
 use Rattle.book.proofs.maker.Openings.rows.Given as goal
 
 abbrev pub invariant-loop-i : goal.invariant-loop-i
-invariant-loop-i l = l.items ≡ filled_upto (opened_item places) no_item most_items l.i l.self.items
+invariant-loop-i l = l.rows ≡ filled_upto (opened_item places) no_item most_items l.i l.items
