@@ -112,6 +112,7 @@ impl Book {
     }
 
     // Complete, the call.
+    // kept: `Done::accepted(book)` and `Done::refused(book, refusal)` prove, here and in the other calls, but pass the book once more: 302.94 M instructions for a sheet, not 298.04 M.
     pub fn complete(self, n: TransactionNumber) -> Done
         ensures { result ≡ complete places self n.0 }
     {

@@ -32,7 +32,7 @@ fn hear_items(
     }
 }
 
-// The district and its items have heard.
+// The district and its items have heard. The items go by its record as it was.
 fn heard(mut b: Book, at: Site) -> Book
     requires { SiteIn places b at }
     ensures { result ≡ heard places b at.number.0 at.district }
@@ -40,8 +40,8 @@ fn heard(mut b: Book, at: Site) -> Book
     let completed = b.open[at.place.0].is_completed();
     let count = b.count;
     let records = b.records;
-    hear_items(&mut b.items, count, records, at, completed);
     hear(&mut b.records[usize::from(at.district)], at.number);
+    hear_items(&mut b.items, count, records, at, completed);
     b
 }
 

@@ -52,6 +52,7 @@ pub struct Item {
 
 // An open transaction at its place: sets of districts, and a decision (0 none, 1 completed, 2 aborted).
 // A free place is all zeros.
+// kept: number 0 and no Option for a free place: `zero_open` tests it (refusals, "free place not zero").
 #[derive(Clone, Copy, Debug, PartialEq, Eq)]
 pub struct Open {
     pub number: TransactionNumber,
@@ -63,6 +64,7 @@ pub struct Open {
 }
 
 // The first `districts` records and the first `count` items count; the rows past them are zero.
+// kept: rows with a count beside them: fixed memory is a rule of the project, and a count past its rows answers 15 (good_counts).
 #[derive(Clone, Copy)]
 pub struct Book {
     pub last: TransactionNumber,
@@ -114,6 +116,7 @@ pub enum Refusal {
 pub type Answer = Result<(), Refusal>;
 
 // What begin answers.
+// kept: number 0 and grant 0 where it is refused, and no Option: `begins` returns them, and refusals prints them.
 #[derive(Clone, Copy)]
 pub struct Begun {
     pub answer: Answer,

@@ -6,6 +6,7 @@ use crate::Record;
 use conditions::TransactionNumber;
 
 // The phases of a record, and the record of an idle district.
+// kept: numbers, and transaction 0 for idle: `Record.phase` is a public byte, and a book with another is unsound (sound_record).
 pub(crate) const IDLE: u8 = 0;
 
 pub(crate) const COMPUTING: u8 = 1;

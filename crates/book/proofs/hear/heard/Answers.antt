@@ -1,4 +1,4 @@
--- The items one after the other, and then the record.
+-- The record, and then the items one after the other.
 use mathlib.Core.Path.{refl}
 use Rattle.conditions.specs.Places.{places}
 use Rattle.book.specs.Hear.{heard}
