@@ -69,9 +69,8 @@ pub(crate) fn read(bytes: &[u8]) -> Program
 {
     let n = bytes.len() / 4;
     let mut steps = [NO_STEP; STEPS];
-    // kept: `bytes.chunks_exact(4)` would need a second step_at, of four bytes: no plainer.
-    for i in 0..n {
-        steps[i] = step_at(bytes, i);
+    for (i, step) in steps[..n].iter_mut().enumerate() {
+        *step = step_at(bytes, i);
     }
     Program { count: n, steps }
 }
