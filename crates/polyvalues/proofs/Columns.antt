@@ -1,19 +1,26 @@
 -- The values and the conditions of the rows in use, each in its array, and what is asked of them.
 use mathlib.Core.Path.{◌≡◌, refl, ap, ap₂, sym, ◌∙◌}
-use mathlib.Core.Bool.{Bool, ◌||◌}
+use mathlib.Core.Bool.{Bool, true, false, not, cond, ◌||◌}
 use mathlib.Core.List.{List, [], ◌∷◌, map}
-use Prim.Native.Nat.{ℕ, zero, suc, ◌<◌}
+use Prim.Native.Nat.{ℕ, zero, suc, ◌+◌, ◌<◌}
+use native.Mathlib.Numerals.{one-add}
+use lib.Dec.{ltb}
 use native.Mathlib.Omega.{arith}
 use lib.IntN.{ℤ, pos}
 use lib.ListN.{length, get_or, take, drop, length-map}
-use Rattle.std.proofs.lemmas.List.{get_or-take}
-use Rattle.std.specs.List.{list_any}
+use Rattle.std.proofs.lemmas.List.{get_or-take, get_or_past}
+use borrow.Author.Tests.{ltb-true, ltb-false}
+use Rattle.std.proofs.lemmas.Option.{none-some, same_Some}
+use Rattle.std.proofs.Common.{Some, None}
+use Rattle.std.specs.List.{list_any, position_or_len}
 use Rattle.conditions.specs.declared.condition.Condition.{Condition}
 use Rattle.conditions.specs.Conditions.{number, of_number, depends_on}
+use Rattle.conditions.specs.Sets.{member}
+use Rattle.conditions.proofs.Laws.Below.{by_cases}
 use Rattle.polyvalues.specs.declared.polyvalue.Pair.{Pair}
 use Rattle.polyvalues.specs.declared.polyvalue.Polyvalue.{Polyvalue}
 use Rattle.polyvalues.specs.Values.{equal}
-use Rattle.polyvalues.specs.Pairs.{no_pair, depends}
+use Rattle.polyvalues.specs.Pairs.{no_pair, applies, applying, depends}
 use Rattle.polyvalues.specs.Polyvalues.{AllRows, paired, rows_of, in_use}
 use Rattle.polyvalues.specs.Operations.{occurs}
 use Rattle.polyvalues.proofs.Laws.Paired.{paired_at}
@@ -67,3 +74,34 @@ any-within p r (suc k) (suc n) (v ∷ vs) e = any-within p r k n vs (λ i. e (su
 pub any-occurs : (v : ℤ) (ps : List Pair) → list_any (equal v) (map (λ p. p.value) ps) ≡ occurs v ps
 any-occurs v [] = refl
 any-occurs v (p ∷ ps) = ap (λ (b : Bool). equal v p.value || b) (any-occurs v ps)
+
+-- the first condition that has the assignment is that of the pair that applies
+module _ (a : ℕ) where
+  abbrev pub applies_at : Condition → Bool
+  applies_at c = member (number c) a
+
+  abbrev pub first_of : List Pair → ℕ
+  first_of ps = position_or_len applies_at (map (λ p. p.condition) ps)
+
+  first-applying : (ps : List Pair) → get_or ps (first_of ps) no_pair ≡ applying ps a
+  first-applying [] = refl
+  first-applying (p ∷ ps) = at_head (applies p a) (first_of ps) (first-applying ps)
+    where
+      at_head : (b : Bool) (k : ℕ) {r : Pair} → get_or ps k no_pair ≡ r → get_or (p ∷ ps) (cond (not b) (1 + k) 0) no_pair ≡ cond b p r
+      at_head true k e = refl
+      at_head false k e = rw (one-add k) e
+
+  pub applying-some : (ps : List Pair) {i : ℕ} → cond (ltb (first_of ps) (length (map (λ p. p.condition) ps))) (Some (first_of ps)) None ≡ Some i
+      → (i < length ps) × (get_or ps i no_pair ≡ applying ps a)
+  applying-some ps {i} e =
+      by_cases (ltb (first_of ps) (length (map (λ p. p.condition) ps)))
+      (λ t.
+      let is : first_of ps ≡ i = same_Some (first_of ps) i (rw t at e) in
+      (omega (arith, ltb-true _ _ t, length-map ps (λ p. p.condition)), ap (λ (k : ℕ). get_or ps k no_pair) (sym is) ∙ first-applying ps))
+      (λ t. absurd (none-some i (rw t at e)))
+
+  pub applying-none : (ps : List Pair) → cond (ltb (first_of ps) (length (map (λ p. p.condition) ps))) (Some (first_of ps)) None ≡ None → no_pair ≡ applying ps a
+  applying-none ps e =
+      by_cases (ltb (first_of ps) (length (map (λ p. p.condition) ps)))
+      (λ t. absurd (none-some (first_of ps) (sym (rw t at e))))
+      (λ t. sym (get_or_past ps (first_of ps) no_pair (omega (arith, ltb-false _ _ t, length-map ps (λ p. p.condition)))) ∙ first-applying ps)

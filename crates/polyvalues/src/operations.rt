@@ -89,12 +89,12 @@ impl Polyvalue {
     pub fn applying(self, assignment: usize) -> Pair
         ensures { result ≡ applying (in_use self) assignment }
     {
-        for i in 0..self.len() {
-            let row = self.row(i);
-            if row.condition.contains(assignment) {
-                return row;
-            }
+        let first = self.conditions[..self.len()]
+            .iter()
+            .position(|c| c.contains(assignment));
+        match first {
+            Some(i) => self.row(i),
+            None => Pair::ZERO,
         }
-        Pair::ZERO
     }
 }

@@ -1,6 +1,8 @@
 // A pair joined among the rows of a polyvalue.
 //
 // The rows are tidy here: those past the count are zero. Values rise only if they did before.
+// kept: no plainer: `q ≡ packed (in_use q)` in three contracts is one call of two words; a type of
+// tidy polyvalues would be taken apart again in each function, since all of them end in a Polyvalue.
 ghost use Rattle.std.specs.Prelude.{◌≡◌, ◌<◌, ◌≤◌, true, false, MatchResult};
 ghost use Rattle.conditions.specs.Places.{places};
 ghost use Rattle.conditions.specs.Conditions.{union};

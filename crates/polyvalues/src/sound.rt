@@ -14,6 +14,7 @@ use conditions::Condition;
 
 impl Pair {
     // Whether the row holds zeros.
+    // kept: no plainer as == at both loops, which ask the definition `blank` by this contract.
     fn is_blank(self) -> bool
         ensures { result ≡ blank self }
     {

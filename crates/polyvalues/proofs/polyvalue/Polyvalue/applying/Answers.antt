@@ -1,19 +1,25 @@
-use mathlib.Core.Path.{refl, sym, ◌∙◌}
-use native.Mathlib.Numerals.{add-one}
-use native.Mathlib.Omega.{arith}
-use lib.ListN.{drop_of_length-le}
+-- The conditions in use, asked one by one, and the row of the first.
+use borrow.Author.Rules.{rules}
+use borrow.Author.Tests.{tests}
+use mathlib.Core.Path.{sym, ◌∙◌}
+use lib.ListN.{take}
+use Rattle.std.proofs.lemmas.Iterator.{YieldsList-from_slice}
+use Rattle.std.proofs.lemmas.Iterator.Search.{position_from_yields_List}
 use Rattle.polyvalues.specs.Polyvalues.{in_use}
-use Rattle.polyvalues.proofs.Joining.{in_use-more}
+use Rattle.polyvalues.proofs.Known.{Held, all-rows}
+use Rattle.polyvalues.proofs.Inserting.{in_use-row}
+use Rattle.polyvalues.proofs.Columns.{conditions-in_use, applies_at, applying-some, applying-none}
 use Rattle.polyvalues.proofs.polyvalue.Polyvalue.applying.Goals as goal
 
-pub loop-i-init : goal.loop-i-init
-loop-i-init c = refl
+pub returns-in-Some : goal.returns-in-Some
+returns-in-Some c =
+    let held : Held c.args.self = record { values = _; own = c.well_formed.0 } in
+    let found = position_from_yields_List (applies_at c.args.assignment) _ _ _ c.position-first.ensures.ran (YieldsList-from_slice (take c.len.result c.args.self.conditions) cc) (λ x b q k. search (rules, tests)) in
+    let first = applying-some c.args.assignment (in_use c.args.self) (sym (rw (conditions-in_use (all-rows held) c.len.ensures.value) at found) ∙ c.in-Some.is) in
+    sym (in_use-row c.args.self c.in-Some.i c.row.ensures first.0) ∙ first.1
 
-pub returns-then-contains : goal.returns-then-contains
-returns-then-contains c = rw (in_use-more c.args.self c.loop-i.i c.row-row.ensures (omega (arith, c.len-i-end.ensures.value)), sym c.contains.ensures ∙ c.if-contains.true) at c.loop-i.invariant
-
-pub loop-i-preserved : goal.loop-i-preserved
-loop-i-preserved c = rw add-one (rw (in_use-more c.args.self c.loop-i.i c.row-row.ensures (omega (arith, c.len-i-end.ensures.value)), sym c.contains.ensures ∙ c.if-contains.false) at c.loop-i.invariant)
-
-pub returns : goal.returns
-returns c = rw (drop_of_length-le (in_use c.args.self) {i = c.loop-i.i} (omega (arith, c.len-i-end.ensures.value))) at c.loop-i.invariant
+pub returns-in-None : goal.returns-in-None
+returns-in-None c =
+    let held : Held c.args.self = record { values = _; own = c.well_formed.0 } in
+    let found = position_from_yields_List (applies_at c.args.assignment) _ _ _ c.position-first.ensures.ran (YieldsList-from_slice (take c.len.result c.args.self.conditions) cc) (λ x b q k. search (rules, tests)) in
+    applying-none c.args.assignment (in_use c.args.self) (sym (rw (conditions-in_use (all-rows held) c.len.ensures.value) at found) ∙ c.in-None.is)
