@@ -34,11 +34,7 @@ pub rows-taken : {A : Type 0} (f : ℕ → A → A) (n : ℕ) (xs : List A) → 
 rows-taken f n xs = rows_from-taken f 0 n xs
 
 module _ (f : ℕ → Item → Item) (was : Book) {now : Book} (i : ℕ) (so_far : now ≡ with_items was (rows f i was.items)) where
-  -- item i is still the one that stood there
-  pub item-waits : item_at now i ≡ item_at was i
-  item-waits = ap (λ (b : Book). item_at b i) so_far ∙ past-rows f void_item i was.items i (omega arith)
-
-  -- and is then changed
+  -- item i is still the one that stood there, and is then changed
   pub item-turn : Held was → i < most_items → {y : Item} → y ≡ f i (item_at now i) → with_items now (set now.items i y) ≡ with_items was (rows f (i + 1) was.items)
   item-turn held h {y} e =
       let items = turn f void_item i was.items now.items y (omega (arith, items-long held)) (ap (λ (b : Book). b.items) so_far) e in
