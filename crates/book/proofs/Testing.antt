@@ -32,19 +32,6 @@ use Rattle.book.proofs.Laws.Room.{together-self}
 
 -- ---- all rows
 
--- a polyvalue with all its rows in use
-abbrev pub whole : Polyvalue → Polyvalue
-whole q = record { count = most_pairs; values = q.values; conditions = q.conditions }
-
-pub whole_same : {q r : Polyvalue} → Held q → Held r → same (in_use (whole q)) (in_use (whole r))
-    ≡ (same_rows equal q.values r.values && same_rows same_condition q.conditions r.conditions)
-unfolding in_use
-whole_same {q} {r} h l =
-    let all : AllRows q = all-rows h in
-    let other : AllRows r = all-rows l in
-    ap₂ same (take_all most_pairs (rows_of q) (omega (arith, rows_long all))) (take_all most_pairs (rows_of r) (omega (arith, rows_long other)))
-    ∙ same-paired q.values r.values q.conditions r.conditions (all.values ∙ sym all.conditions) (other.values ∙ sym other.conditions)
-
 -- rows that are all blank are rows of zeros
 blank-same : (ps : List Pair) → each blank ps ≡ same ps (replicate (length ps) no_pair)
 blank-same [] = refl

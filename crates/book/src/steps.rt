@@ -16,9 +16,9 @@ pub enum Kind {
     Copy,
 }
 
-// A number that no kind has.
+// No kind has the number.
 #[derive(Clone, Copy, PartialEq, Eq)]
-pub struct UnknownKind(pub u8);
+pub struct UnknownKind;
 
 impl TryFrom<u8> for Kind {
     type Error = UnknownKind;
@@ -31,7 +31,7 @@ impl TryFrom<u8> for Kind {
             2 => Ok(Kind::Add),
             3 => Ok(Kind::Set),
             4 => Ok(Kind::Copy),
-            _ => Err(UnknownKind(kind)),
+            _ => Err(UnknownKind),
         }
     }
 }

@@ -1,7 +1,7 @@
 -- Looking at the pairs, one after the other, finds what is asked.
-use mathlib.Core.Path.{◌≡◌, refl, sym, ◌∙◌}
+use mathlib.Core.Path.{◌≡◌, sym, ◌∙◌}
 use mathlib.Core.Bool.{true, false, cond}
-use mathlib.Core.List.{List, [], ◌∷◌}
+use mathlib.Core.List.{List, ◌∷◌}
 use Prim.Native.Nat.{ℕ, ◌+◌, ◌^◌, ◌<◌, ◌≤◌}
 use native.Mathlib.Nat.{zero-add}
 use native.Mathlib.Omega.{arith}
@@ -27,10 +27,6 @@ left-all ps a h = rw (lt-ltb a (2 ^ places) h)
 pub asked-past : (ps : List Pair) (a : ℕ) → 2 ^ places ≤ a → None ≡ asked places ps a
 unfolding asked
 asked-past ps a h = rw (le-ltb a (2 ^ places) h)
-
-pub left-none : (f : Option ℤ) (a : ℕ) → left f [] a ≡ f
-left-none None a = refl
-left-none (Some v) a = refl
 
 pub left-other : (f : Option ℤ) (p : Pair) (ps : List Pair) (a : ℕ) → applies p a ≡ false → left f (p ∷ ps) a ≡ left f ps a
 left-other None p ps a e = rw (e, zero-add (hits ps a))

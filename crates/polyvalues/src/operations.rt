@@ -54,8 +54,8 @@ impl Polyvalue {
         join_rows(Polyvalue::nothing(), self, |c| c.reduce(place, outcome)).unwrap()
     }
 
-    // One polyvalue where the place is completed, another where it is aborted; the latter, where
-    // there is no room for both.
+    // One polyvalue where the place is completed, another where it is aborted; where there is no room
+    // for both, the error gives back the latter.
     pub fn select(place: Place, done: Polyvalue, gone: Polyvalue) -> Result<Polyvalue, NinthValue>
         ensures { result ≡ fitted gone (select places place.0 (in_use done) (in_use gone)) }
     {
