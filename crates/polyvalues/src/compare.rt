@@ -20,12 +20,10 @@ impl Polyvalue {
 
     // Whether a row from one on has the value.
     fn occurs(self, value: i16, from: usize) -> bool
+        requires { from ≤ length (in_use self) }
         ensures { result ≡ occurs value (drop from (in_use self)) }
     {
-        self.values[..self.len()]
-            .iter()
-            .skip(from)
-            .any(|v| value == *v)
+        self.values[from..self.len()].iter().any(|v| value == *v)
     }
 
     // What row i adds to the values of the rows after it and of the other polyvalue: 1 or nothing.
