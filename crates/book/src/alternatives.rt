@@ -42,7 +42,7 @@ impl Alternative {
 }
 
 // The block of the assignment, and the held values that it chooses.
-// kept: the bound stays: an unsound book may be handed in, so the count of a `&Book` has no invariant.
+// kept: what may not change: an unsound book may be handed in (refusals, "33 items"): no invariant on its count.
 fn alternative_under(b: &Book, p: Program, assignment: usize) -> Alternative
     requires { b.now.count ≤ most_items }
     ensures condition_value { number result.condition ≡ block places b.now (steps_of p) assignment }
@@ -80,7 +80,7 @@ fn joined_row(
 
 // The results of a run, which stand under the condition, joined in for each touched item, if there is
 // room for them.
-// kept: the bound stays: the count is that of a book, and has no invariant there (unsound books are handed in).
+// kept: what may not change: an unsound book may be handed in (refusals, "33 items"): no invariant on its count.
 fn joined_in(
     new: [Polyvalue; ITEMS],
     count: usize,
@@ -131,7 +131,7 @@ impl Worked {
     }
 
     // 1 if no assignment declines, 0 if all do, 2 otherwise.
-    // kept: a number: what may not change: the definition `Begin.grant` gives the document's number.
+    // kept: what may not change: the definition `Begin.grant` gives the document's number.
     pub(crate) fn granted(&self) -> u8
         ensures { result ≡ grant_of self.now.declines self.now.grants }
     {
@@ -163,7 +163,7 @@ pub(crate) fn worked_out(b: &Book, p: Program) -> Option<Worked>
 {
     let mut done = nothing_worked();
     let mut next: usize = 0;
-    // kept: no count: the next one is the lowest assignment that no block has covered yet.
+    // kept: no plainer as a `for`: the next one is the lowest assignment that no block has covered yet.
     while next < ASSIGNMENTS {
         let start = alternative_under(b, p, next);
         done = done.after(b.count, p, start)?;
@@ -180,7 +180,7 @@ fn over_room(x: Item, new: Polyvalue, touched: bool) -> bool
 }
 
 // Whether those of some item are.
-// kept: the bound stays: an unsound book may be handed in, so the count of a `&Book` has no invariant.
+// kept: what may not change: an unsound book may be handed in (refusals, "33 items"): no invariant on its count.
 pub(crate) fn too_many(b: &Book, p: Program, w: &Worked) -> bool
     requires count_le_most_items { b.now.count ≤ most_items }
     requires worked_out { WorkedOut places b.now (steps_of p) w.now }

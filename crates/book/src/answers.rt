@@ -6,7 +6,7 @@ use crate::{Answer, Refusal};
 
 impl Refusal {
     // Its number.
-    // kept: `as u8` of an enum is its discriminant, here document 01's number (refusal_number).
+    // kept: no plainer: `as u8` of an enum is its discriminant, here document 01's number (refusal_number).
     pub fn number(self) -> u8
         ensures { result ≡ refusal_number self }
     {

@@ -48,7 +48,7 @@ fn begun(mut b: Book, p: Program, w: Worked, room: Room) -> Book
     ensures { result ≡ begun places b (steps_of p) }
 {
     let number = TransactionNumber(b.last.0 + 1);
-    // kept: tried `b.items[..count].iter_mut()`: no fact says what `b.items` holds after that loan ends.
+    // kept: no plainer in a function lent the items, as in give_up.rt: its contract is longer than the loop.
     for i in 0..b.count {
         b.items[i] = begun_item(b.items[i], p.touches(i), w.new[i]);
     }

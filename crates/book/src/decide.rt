@@ -24,6 +24,7 @@ pub enum Decision {
 
 impl Decision {
     // Its number, as a place holds it.
+    // kept: no plainer: `as u8` of an enum is its discriminant, here the document's number (decision_number).
     fn number(self) -> u8
         ensures { result ≡ decision_number self }
     {
@@ -112,7 +113,7 @@ impl Book {
     }
 
     // Complete, the call.
-    // kept: `Done::accepted(book)` and `Done::refused(book, refusal)` prove, here and in the other calls, but pass the book once more: 302.94 M instructions for a sheet, not 298.04 M.
+    // kept: tried `Done::accepted` and `Done::refused` in each call: 302.94 M instructions a sheet, not 298.04 M.
     pub fn complete(self, n: TransactionNumber) -> Done
         ensures { result ≡ complete places self n.0 }
     {

@@ -12,7 +12,7 @@ use crate::{Book, Open, Record};
 use conditions::TransactionNumber;
 
 // Whether a record holds zeros.
-// kept: not inline: its clause ties `==` to the definition `SoundTest.zero_record`.
+// kept: no plainer inline: by this clause `x == RESTING` becomes the definition `SoundTest.zero_record`.
 fn zero_record(x: Record) -> bool
     ensures { result ≡ zero_record x }
 {

@@ -20,7 +20,7 @@ use crate::{Book, Done, Item, Record, Refusal};
 use conditions::TransactionNumber;
 
 // The items are given up.
-// kept: as one function with hear's loop, over a closure, it would carry the bound on each item in the closure's `pre`: no plainer.
+// kept: no plainer as one with hear's loop: the closure's `pre` would carry `small`, the bound on each item.
 fn give_up_items(
     items: &mut [Item; ITEMS],
     count: usize,

@@ -15,7 +15,7 @@ use conditions::TransactionNumber;
 use polyvalues::{PAIRS, Polyvalue};
 
 // Whether two polyvalues are the same, rows past the count too.
-// kept: not inline: its clause ties `==` to the definition `SoundTest.same_polyvalue`.
+// kept: no plainer inline: by this clause `q == other` becomes the definition `SoundTest.same_polyvalue`.
 fn same_polyvalue(q: Polyvalue, other: Polyvalue) -> bool
     ensures { result ≡ same_polyvalue q other }
 {
@@ -23,7 +23,7 @@ fn same_polyvalue(q: Polyvalue, other: Polyvalue) -> bool
 }
 
 // Whether an item holds zeros.
-// kept: not inline: its clause ties the test to the definition `SoundTest.same_item`.
+// kept: no `==` with a zero item: `is_nothing` has no branch for each row (docs/DECISIONS.md).
 fn zero_row(x: Item) -> bool
     ensures { result ≡ same_item x no_item }
 {

@@ -15,7 +15,7 @@ use conditions::Place;
 use polyvalues::Polyvalue;
 
 // Whether the item is in the district and on the transaction.
-// kept: records apart, not a `&Book`: the book's items are changed while its records are read.
+// kept: no plainer with a `&Book`: its items are lent to be changed (`&mut b.items`) while records are read.
 fn is_concerned(x: Item, records: [Record; DISTRICTS], at: Site) -> bool
     ensures { (b : Book) → b.records ≡ records → result ≡ concerned b at.number.0 at.district x }
 {

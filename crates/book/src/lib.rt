@@ -64,7 +64,7 @@ pub struct Open {
 }
 
 // The first `districts` records and the first `count` items count; the rows past them are zero.
-// kept: rows with a count beside them: fixed memory is a rule of the project, and a count past its rows answers 15 (good_counts).
+// kept: rows with a count: fixed memory is a rule, and a count past them answers 15 (refusals, "33 items").
 #[derive(Clone, Copy)]
 pub struct Book {
     pub last: TransactionNumber,
@@ -121,12 +121,13 @@ pub type Answer = Result<(), Refusal>;
 pub struct Begun {
     pub answer: Answer,
     pub number: TransactionNumber,
-    // kept: a number: a refused begin gives grant 0 (begins), which no enum of the three grants names.
+    // kept: a number: a refused begin gives 0 too (`begins`), where nothing declined, and refusals prints it.
     pub grant: u8,
     pub book: Book,
 }
 
 // What the other events on a transaction answer.
+// kept: the book stands beside the Result: document 01 has the next call take it, refused or not (`done`).
 #[derive(Clone, Copy)]
 pub struct Done {
     pub answer: Answer,

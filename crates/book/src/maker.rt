@@ -103,6 +103,7 @@ impl Openings {
 }
 
 // The book of these districts and items, or the all-zero book where they open none.
+// kept: what may not change: `opened_rows` (law `too_many_rows`) and 01 give the all-zero book, and no refusal.
 pub fn opened(districts: usize, items: Openings) -> Book
     ensures { result ≡ opened_rows places districts items }
 {

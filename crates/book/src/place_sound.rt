@@ -15,7 +15,7 @@ use crate::tables::{FREE, Tables};
 use conditions::{PLACES, TransactionNumber};
 
 // Whether a place holds zeros.
-// kept: not inline: its clause ties `==` to the definition `SoundTest.zero_open`, which sound_place shows.
+// kept: no plainer inline: by this clause `o == FREE` becomes the definition `SoundTest.zero_open`.
 fn zero_open(o: Open) -> bool
     ensures { result ≡ zero_open o }
 {
@@ -23,7 +23,7 @@ fn zero_open(o: Open) -> bool
 }
 
 // Whether a set of districts has only those below the count.
-// kept: the bound stays: the shift needs it, and `Tables` shows it by its ghost field.
+// kept: no plainer handed the `Tables` with their ghost bound: the shift needs this one number alone.
 fn is_within(set: u8, districts: usize) -> bool
     requires { districts ≤ most_districts }
     ensures { result ≡ ltb set (2 ^ districts) }
@@ -85,7 +85,7 @@ fn sound_open(t: Tables, q: usize, o: Open) -> bool
     if !number_differs(t.open, q, o.number) {
         return false;
     }
-    // kept: tried `t.last < o.number`: `search` gave up on the derived order.
+    // kept: tried `t.last < o.number` with PartialOrd derived: the proof did not close (`search` gave up on it).
     if t.last.0 < o.number.0 {
         return false;
     }
@@ -111,7 +111,7 @@ fn sound_place(t: Tables, q: usize) -> bool
 pub(crate) fn sound_places(t: Tables) -> bool
     ensures { (b : Book) → TablesOf place_count b t → result ≡ all place_count (sound_place place_count b) }
 {
-    // kept: tried `(0..PLACES).all(..)`: what is inferred of the closure hides sound_place's own clause.
+    // kept: tried `(0..PLACES).all(..)`: no proof: what is inferred of the closure hides sound_place's clause.
     for q in 0..PLACES {
         if !sound_place(t, q) {
             return false;

@@ -20,7 +20,7 @@ const NO_STEP: Step = Step {
 };
 
 // The first `count` steps count; the rows past them are zero.
-// kept: fixed memory is a rule of the project, so the count stands beside the rows.
+// kept: no plainer as one struct with `Openings`: docs and `openings_of` name that one; fixed memory is a rule.
 #[derive(Clone, Copy)]
 pub struct Program {
     count: usize,

@@ -6,7 +6,7 @@ use crate::Record;
 use conditions::TransactionNumber;
 
 // The phases of a record, and the record of an idle district.
-// kept: numbers, and transaction 0 for idle: `Record.phase` is a public byte, and a book with another is unsound (sound_record).
+// kept: numbers, and transaction 0 for idle: a book with others answers 15 (sound_record; refusals, "phase 3").
 pub(crate) const IDLE: u8 = 0;
 
 pub(crate) const COMPUTING: u8 = 1;

@@ -6,6 +6,7 @@ ghost use Rattle.book.specs.Book.{most_districts, including};
 use crate::tables::DISTRICTS;
 
 // Whether the district is in a set of districts.
+// kept: no plainer as one with `Condition::contains`: a trait of words with its laws, for one line.
 pub(crate) fn has(set: u8, d: usize) -> bool
     ensures { result ≡ member set d }
 {

@@ -25,6 +25,7 @@ impl TryFrom<u8> for Kind {
 
     ghost try_from_gives = { KindOf };
 
+    // The kind with the number.
     fn try_from(kind: u8) -> Result<Self, UnknownKind> {
         match kind {
             1 => Ok(Kind::Need),
@@ -37,6 +38,7 @@ impl TryFrom<u8> for Kind {
 }
 
 // The item that a Copy's operand numbers.
+// kept: no Option: what may not change: the definition `Programs.numbered` is 0 for a number below zero.
 pub(crate) fn numbered(operand: i16) -> usize
     ensures { result ≡ numbered operand }
 {

@@ -53,7 +53,7 @@ fn begun_record(r: Record, set: u8, d: usize, n: TransactionNumber) -> Record
 }
 
 // The records, where each district of the set computes on the transaction.
-// kept: it gives the array back: after a loan of a slice of a field no fact says what that field holds (`begun`).
+// kept: no plainer lent as in give_up.rt (`&mut b.items`): its contract would be longer than the loop.
 pub(crate) fn begun_records(
     records: [Record; DISTRICTS],
     districts: usize,

@@ -70,8 +70,7 @@ impl Condition {
     }
 
     // The lowest member, or the number of assignments where there is none.
-    // kept: no Option, since the definition `Conditions.lowest` gives 64 for none; and no `From`,
-    // since `usize` has none from `u32`, and `try_from` would have a refusal to answer.
+    // kept: no Option: the definition `Conditions.lowest` gives 64 for none; no From: usize has none from u32.
     pub fn lowest(self) -> usize
         ensures { result ≡ lowest places (number self) }
     {

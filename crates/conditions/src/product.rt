@@ -61,6 +61,7 @@ impl Tag {
 impl From<Tag> for usize {
     ghost from_gives = { λ tag digit. digit ≡ tag_number tag };
 
+    // What a digit counts.
     fn from(tag: Tag) -> usize {
         match tag {
             Tag::Absent => 0,
@@ -147,8 +148,7 @@ impl Condition {
 
     // The condition's next prime product from a number on; where there is none, the number of
     // products, or the number that it began from if that is past it.
-    // kept: no Option, since docs/DECISIONS.md ("A product's digits past the last place say nothing")
-    // and the definition `Products.next_prime` give that number.
+    // kept: no Option: the definition `Products.next_prime` gives that number (docs/DECISIONS.md, Conditions).
     pub fn next_prime(self, from: Product) -> Product
         ensures { result.0 ≡ next_prime places (number self) from.0 }
     {

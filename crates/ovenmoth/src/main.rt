@@ -32,7 +32,7 @@ fn play_all(opened: Opened, sheet: &[u8], out: &mut [u8]) {
     let mut book = opened.book;
     let mut at = opened.first;
     let mut waiting: usize = 0;
-    // kept: `as`, since u64 is made From no usize (as in Rust), and try_from would add a branch that no sheet reaches.
+    // kept: no plainer than `as`: u64 has no From<usize>, and try_from adds a branch that no sheet reaches.
     for position in 1..=opened.count as u64 {
         let Ok(Found { event, next }) = event_at(sheet, at) else {
             return;
@@ -58,7 +58,7 @@ fn play_all(opened: Opened, sheet: &[u8], out: &mut [u8]) {
 
 // Prints the line of a refused sheet.
 fn refuse(answer: Answer, place: usize, out: &mut [u8]) {
-    // kept: `as`, for the same reason as in `play_all`.
+    // kept: no plainer than `as`, for the same reason as in `play_all`.
     let Ok(end) = write_refusal(answer, place as u64, out) else {
         return;
     };

@@ -86,6 +86,7 @@ impl Polyvalue {
     }
 
     // The first pair that applies under the assignment, or a row of zeros where none does.
+    // kept: no Option: the definition `Pairs.applying` gives the row of zeros where none applies.
     pub fn applying(self, assignment: usize) -> Pair
         ensures { result ≡ applying (in_use self) assignment }
     {

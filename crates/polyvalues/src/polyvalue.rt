@@ -41,8 +41,7 @@ impl Pair {
 
 impl Polyvalue {
     // The pair of row i.
-    // kept: the loops that need both of a row read it here by its index: there are two arrays, and
-    // Rattle has no impl Trait as a result to hand out an iterator of pairs.
+    // kept: no plainer as `zip` of both arrays in each loop, which would put the `Pair` together there again.
     pub(crate) fn row(self, i: usize) -> Pair
         requires { i < most_pairs }
         ensures { result ≡ get_or (rows_of self) i no_pair }

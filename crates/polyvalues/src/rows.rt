@@ -1,8 +1,7 @@
 // A pair joined among the rows of a polyvalue.
 //
 // The rows are tidy here: those past the count are zero. Values rise only if they did before.
-// kept: no plainer: `q ≡ packed (in_use q)` in three contracts is one call of two words; a type of
-// tidy polyvalues would be taken apart again in each function, since all of them end in a Polyvalue.
+// kept: no plainer: a type of tidy polyvalues would be taken apart again in each of the three functions.
 ghost use Rattle.std.specs.Prelude.{◌≡◌, ◌<◌, ◌≤◌, true, false, MatchResult};
 ghost use Rattle.conditions.specs.Places.{places};
 ghost use Rattle.conditions.specs.Conditions.{union};

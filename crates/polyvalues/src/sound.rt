@@ -71,6 +71,7 @@ impl Polyvalue {
     fn is_checked(self) -> bool
         ensures { result ≡ checked_from places below_all 0 (in_use self) }
     {
+        // kept: no Option for no row yet: the definition `Checked.below_all` is -10,000, below every value.
         let mut last = Pair {
             value: -10000,
             condition: Condition::EMPTY,

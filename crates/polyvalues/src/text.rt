@@ -23,8 +23,7 @@ fn distance(v: i16) -> u64
 }
 
 // How many bytes the value takes in decimal.
-// kept: docs/PROMISES.md names `value_len`, and the contract of `Polyvalue::text_len` stands as it
-// was: so the lengths stand beside the texts that are put.
+// kept: no plainer by putting into a line of no bytes, as conditions does: here what puts asks for room.
 pub fn value_len(v: i16) -> usize
     ensures value { result ≡ length (value_text v) }
     ensures upper_bound { result ≤ 6 }
@@ -37,6 +36,7 @@ pub fn value_len(v: i16) -> usize
 }
 
 // A lent buffer, and the position of the next byte.
+// kept: `byte` and `decimal` have twins in sheet's `Line`: one for both would be public with a `requires`.
 #[derive(Drop)]
 struct Line<'a> {
     buf: &'a mut [u8],
@@ -146,6 +146,7 @@ impl Polyvalue {
     }
 
     // Writes its line into the buffer, from a position on: the count of pairs, and each pair.
+    // kept: no plainer with `write_value` as one over a closure: its `pre` would carry the length of the text.
     pub fn write_text(
         self,
         numbers: [TransactionNumber; PLACES],

@@ -64,7 +64,7 @@ impl Reader<'_> {
     }
 
     // What stands behind an event's kind.
-    // kept: a number: here each of the sheet's kinds (`fields`) becomes its `Event`; an enum between would say them twice.
+    // kept: no plainer: a kind (`fields`) becomes its `Event` here; an enum between would name all seven twice.
     #[tactic(auto, unfolding(crate::specs::Events::fields, crate::specs::Events::at_district, crate::specs::Events::on_number, crate::specs::Events::of_item))]
     fn fields(&mut self, kind: usize) -> Result<Event, Wrong>
         ensures { Reads (fields kind) self.old self.new result }
