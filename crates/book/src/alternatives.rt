@@ -113,6 +113,7 @@ pub struct Worked {
 impl Worked {
     // The same, with one block more, if there is room for it: the block that an assignment of a book of
     // so many items starts with.
+    // kept: what may not change: an unsound book may be handed in (refusals, "33 items"): no invariant on its count.
     fn after(self, count: usize, p: Program, start: Alternative) -> Option<Worked>
         requires { (count ≤ most_items) × (some_step (outside count) (steps_of p) ≡ false) }
         ensures covered_value { IfSome result (λ w. number w.covered ≡ union places (number self.covered) (number start.condition)) }

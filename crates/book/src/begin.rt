@@ -41,6 +41,7 @@ pub struct Room {
 }
 
 // The next number is given to the program, at the place.
+// kept: what may not change: an unsound book may be handed in (refusals, "33 items"): no invariant on its count.
 fn begun(mut b: Book, p: Program, w: Worked, room: Room) -> Book
     requires districts_le_most_districts { (b.districts ≤ most_districts) × (b.count ≤ most_items) × (b.last.0 < last_number) }
     requires room_value { (room ≡ room_of places b (steps_of p)) × (room.place < places) }

@@ -61,6 +61,7 @@ fn is_awaited(o: Open, d: usize) -> bool
 }
 
 // Whether a district is awaited.
+// kept: no plainer: what is counted is a set, with no rows to lend; the caller has the bound of a sound book.
 fn some_awaited(o: Open, districts: usize) -> bool
     requires { districts ≤ most_districts }
     ensures { result ≡ any districts (λ d. member o.touched d && not (member o.ready d)) }

@@ -15,6 +15,7 @@ use conditions::PLACES;
 
 impl Tables {
     // Those of a book whose items depend on these places.
+    // kept: what may not change: an unsound book may be handed in: the bound of `Tables` begins here.
     pub(crate) fn of(b: &Book, depended: u8) -> Tables
         requires { b.now.districts ≤ most_districts }
         ensures { ((q : ℕ) → q < place_count → member depended q ≡ some_depends place_count b.now q) → TablesOf place_count b.now result }
@@ -61,6 +62,7 @@ fn remembered_places(t: Tables) -> [Open; PLACES]
 }
 
 // The book with each such place freed.
+// kept: what may not change: an unsound book may be handed in (refusals, "33 items"): no invariant on its count.
 pub(crate) fn forget(mut b: Book) -> Book
     requires { (b.districts ≤ most_districts) × (b.count ≤ most_items) }
     ensures { result ≡ forget place_count b }

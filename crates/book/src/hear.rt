@@ -17,6 +17,7 @@ use crate::{Book, Done, Item, Record, Refusal};
 use conditions::TransactionNumber;
 
 // The items have heard.
+// kept: what may not change: an unsound book may be handed in (refusals, "33 items"): no invariant on its count.
 fn hear_items(
     items: &mut [Item; ITEMS],
     count: usize,

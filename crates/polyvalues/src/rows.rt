@@ -13,6 +13,7 @@ ghost use Rattle.polyvalues.specs.Rows.{PlaceOf, has_at, moved};
 use crate::polyvalue::{PAIRS, Pair, Polyvalue};
 
 // The row in use that has the value, or where a new one goes: before the first higher one.
+// kept: what may not change: any count may be handed in (refusals, "nine pairs"): no invariant on it.
 fn place_of(q: Polyvalue, value: i16) -> Result<usize, usize>
     requires { q.count ≤ most_pairs }
     ensures { MatchResult result (λ k. PlaceOf q value k × (has_at q k value ≡ true)) (λ k. PlaceOf q value k × (has_at q k value ≡ false)) }

@@ -41,6 +41,7 @@ impl Pair {
 
 impl Polyvalue {
     // Whether the rows past the count hold zeros.
+    // kept: what may not change: any count may be handed in (refusals, "nine pairs"): no invariant on it.
     fn is_tidy(self) -> bool
         requires { self.count ≤ most_pairs }
         ensures { result ≡ tidy self }

@@ -109,6 +109,7 @@ impl Line<'_> {
 }
 
 // Writes the value in decimal into the buffer, from a position on.
+// kept: what may not change: the public signature has the buffer and the position side by side.
 pub fn write_value(v: i16, buf: &mut [u8], at: usize) -> Result<usize, NoRoom>
     ensures value { result ≡ answer buf.old at (value_text v) }
     ensures buf_after { buf.new ≡ written buf.old at (value_text v) }

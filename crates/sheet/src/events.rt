@@ -104,6 +104,7 @@ impl Reader<'_> {
 }
 
 // What stands at a place of the sheet: an event, and the place behind it.
+// kept: what may not change: the public signature has the sheet and the place side by side.
 #[tactic(auto, unfolding(crate::specs::Events::event_at))]
 pub fn event_at(sheet: &[u8], at: usize) -> Result<Found, Wrong>
     ensures value { result ≡ event_at sheet.now at }

@@ -19,6 +19,7 @@ pub struct Played {
 }
 
 // The bytes from a place up to another.
+// kept: no plainer with a `Reader`: it has one place, and these are two.
 fn between(sheet: &[u8], from: usize, to: usize) -> &[u8]
     ensures { result.now ≡ take (to - from) (drop from sheet.now) }
 {
