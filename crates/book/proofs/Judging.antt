@@ -13,7 +13,8 @@ use Rattle.book.specs.Answers.{Answer, accepted, first_of}
 use Rattle.book.specs.Book.{place_of}
 use Rattle.book.specs.SoundTest.{sound}
 use Rattle.book.specs.Forget.{forget}
-use Rattle.book.specs.Transactions.{done, unsound, not_open, no_district, site_of, SiteIn}
+use Rattle.book.specs.Transactions.{done, unsound, not_open, no_district}
+use Rattle.book.specs.Judged.{site_of, SiteIn}
 use Rattle.book.proofs.Doing.{accepts}
 use Rattle.book.proofs.Laws.Answers.{test-false, later-accepted, and-accepted, and-refused}
 

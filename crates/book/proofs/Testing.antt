@@ -1,5 +1,5 @@
 -- The tests of soundness, as the code makes them.
-use mathlib.Core.Path.{◌≡◌, refl, sym, ap, ap₂, ◌∙◌}
+use mathlib.Core.Path.{◌≡◌, refl, sym, ap, ◌∙◌}
 use mathlib.Core.Bool.{Bool, true, false, not, ◌&&◌, cond, and-false}
 use mathlib.Core.List.{List, [], ◌∷◌}
 use Prim.Native.Nat.{ℕ, ◌+◌, ◌-◌, ◌≤◌, ◌<◌}
@@ -10,13 +10,12 @@ use lib.IntN.{pos}
 use lib.ListN.{length, get_or, drop, replicate}
 use Rattle.std.specs.List.{list_all}
 use Rattle.book.proofs.Lists.{all_past}
-use lib.Seq.{take_all}
 use Rattle.polyvalues.specs.declared.polyvalue.Pair.{Pair}
 use Rattle.polyvalues.specs.declared.polyvalue.Polyvalue.{Polyvalue}
 use Rattle.polyvalues.specs.Pairs.{no_pair, assignments, blank}
 use Rattle.polyvalues.specs.Values.{equal}
 use Rattle.polyvalues.specs.Polyvalues.{each, most_pairs, rows_of, in_use, packed, AllRows, sound as sound_polyvalue}
-use Rattle.polyvalues.specs.Operations.{same_rows, same, together}
+use Rattle.polyvalues.specs.Operations.{same, together}
 use Rattle.polyvalues.proofs.Laws.Packed.{sound-well_formed}
 use Rattle.polyvalues.proofs.Laws.Paired.{rows_long}
 use Rattle.polyvalues.proofs.Known.{Held, all-rows}
@@ -26,7 +25,7 @@ use Rattle.book.specs.declared.Record.{Record}
 use Rattle.book.specs.declared.Item.{Item}
 use Rattle.book.specs.declared.Book.{Book}
 use Rattle.book.specs.Book.{most_districts, most_items, good_counts, last_number, no_record, no_item, void_item, record_on, item_at, item_on, place_of, item_depends}
-use Rattle.book.specs.SoundTest.{implies, same_condition, same_polyvalue, same_item, sound_pending, sound_row, sound_item}
+use Rattle.book.specs.SoundTest.{implies, same_polyvalue, same_item, sound_pending, sound_row, sound_item}
 use Rattle.book.proofs.Laws.Same.{same-paired, same-polyvalue}
 use Rattle.book.proofs.Laws.Room.{together-self}
 

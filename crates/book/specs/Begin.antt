@@ -9,8 +9,6 @@ use Rattle.polyvalues.specs.Pairs.{at}
 use Rattle.polyvalues.specs.Polyvalues.{most_pairs, in_use, packed}
 use Rattle.polyvalues.specs.Simplify.{canon}
 use Rattle.polyvalues.specs.Operations.{together}
-use Rattle.book.specs.declared.Refusal.{Refusal}
-use Rattle.book.specs.declared.begin.Room.{Room}
 use Rattle.book.specs.declared.Refusal.TheVariants.{NoItem, BadProgram, NotIdle, AllOpen, NumbersGiven, TooManyValues, Unsound}
 use Rattle.book.specs.declared.Begun.{Begun}
 use Rattle.book.specs.declared.Book.{Book}
@@ -99,23 +97,11 @@ begin_answer w b bytes =
     ∷ []
     )
 
--- these tests as the code asks them: 15, 3, 2
-abbrev pub program_tests : ℕ → Book → List ℕ → List (Bool × Refusal)
-program_tests w b bytes = (unsound w b, Unsound) ∷ (bad_program bytes, BadProgram) ∷ (some_step (outside b.count) (steps bytes), NoItem) ∷ []
-
--- and 5, 6, 7
-abbrev pub room_tests : ℕ → Book → List Step → List (Bool × Refusal)
-room_tests w b xs = (some_busy b xs, NotIdle) ∷ (not (ltb (free_place w b) w), AllOpen) ∷ (not (ltb b.last.0 last_number), NumbersGiven) ∷ []
-
 -- ---- accepted
 
 -- district d has a touched item
 unfoldable pub touches_district : Book → List Step → ℕ → Bool
 touches_district b xs d = any b.count (λ i. touches xs i && eqb (item_at b i).district d)
-
--- what the program takes: the place, and the districts that it touches
-abbrev pub room_of : ℕ → Book → List Step → Room
-room_of w b xs = record { place = free_place w b; districts = set_of most_districts (touches_district b xs) }
 
 -- an item, number i: "The results are the touched items' pending polyvalues."
 unfoldable pub begin_item : ℕ → Book → List Step → ℕ → Item → Item

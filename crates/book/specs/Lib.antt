@@ -22,3 +22,4 @@ pub mod Decide
 pub mod Hear
 pub mod Show
 pub mod Examples
+pub mod Judged

@@ -8,7 +8,8 @@ ghost use Rattle.book.specs.Items.{becomes};
 ghost use Rattle.book.specs.States.{steps_of, program_of};
 ghost use Rattle.book.specs.Programs.{steps, some_step};
 ghost use Rattle.book.specs.Alternatives.{WorkedOut};
-ghost use Rattle.book.specs.Begin.{outside, some_busy, too_many, program_tests, room_tests, room_of, begun, begins, begin};
+ghost use Rattle.book.specs.Begin.{outside, some_busy, too_many, begun, begins, begin};
+ghost use Rattle.book.specs.Judged.{program_tests, room_tests, room_of};
 ghost use Rattle.book.specs.SoundTest.{sound};
 
 use crate::alternatives::{Worked, too_many, worked_out};

@@ -7,7 +7,7 @@ ghost use Rattle.polyvalues.specs.Operations.{together};
 ghost use Rattle.book.specs.declared.Book.{Book};
 ghost use Rattle.book.specs.Book.{most_items, void_item};
 ghost use Rattle.book.specs.Rows.{rows};
-ghost use Rattle.book.specs.Transactions.{site_of, SiteIn};
+ghost use Rattle.book.specs.Judged.{site_of, SiteIn};
 ghost use Rattle.book.specs.GiveUp.{give_up_answer, give_up_item, gave_up, give_up};
 
 use crate::forget::forget;

@@ -2,7 +2,7 @@
 ghost use Rattle.std.specs.Prelude.{◌≡◌, ◌≤◌};
 ghost use Rattle.std.specs.Result.{result_and};
 ghost use Rattle.conditions.specs.Places.{places};
-ghost use Rattle.book.specs.Transactions.{site_of, SiteIn};
+ghost use Rattle.book.specs.Judged.{site_of, SiteIn};
 ghost use Rattle.book.specs.declared.Book.{Book};
 ghost use Rattle.book.specs.Book.{most_items};
 ghost use Rattle.book.specs.Rows.{rows};

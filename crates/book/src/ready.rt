@@ -3,7 +3,7 @@
 ghost use Rattle.std.specs.Prelude.{◌≡◌};
 ghost use Rattle.std.specs.Result.{result_and};
 ghost use Rattle.conditions.specs.Places.{places};
-ghost use Rattle.book.specs.Transactions.{site_of, SiteIn};
+ghost use Rattle.book.specs.Judged.{site_of, SiteIn};
 ghost use Rattle.book.specs.Ready.{ready_answer, readied, ready};
 
 use crate::records::{computing_on, wait};

@@ -4,7 +4,7 @@ ghost use Rattle.std.specs.Result.{result_and};
 ghost use Rattle.conditions.specs.Places.{places};
 ghost use Rattle.book.specs.Answers.{first_of};
 ghost use Rattle.book.specs.Book.{place_of, record_at};
-ghost use Rattle.book.specs.Transactions.{open_tests, site_tests, on_tests, site_of};
+ghost use Rattle.book.specs.Judged.{open_tests, site_tests, on_tests, site_of};
 
 use crate::tables::place_of;
 use crate::{Book, Record, Refusal};

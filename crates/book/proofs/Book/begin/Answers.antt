@@ -17,7 +17,8 @@ use Rattle.book.specs.Answers.{accepted, first_of}
 use Rattle.book.specs.Book.{last_number, free_place}
 use Rattle.book.specs.Programs.{steps, some_step}
 use Rattle.book.specs.States.{steps_of, program_of}
-use Rattle.book.specs.Begin.{outside, some_busy, too_many, program_tests, room_tests, room_of, begins, begin_answer, begin}
+use Rattle.book.specs.Begin.{outside, some_busy, too_many, begins, begin_answer, begin}
+use Rattle.book.specs.Judged.{program_tests, room_tests, room_of}
 use Rattle.book.specs.SoundTest.{sound}
 use Rattle.book.proofs.Reading.{steps-read}
 use Rattle.book.proofs.Laws.Answers.{and-accepted, and-refused, test-false, later-accepted}

@@ -4,7 +4,7 @@ use Rattle.conditions.specs.Places.{places}
 use Rattle.book.specs.declared.Book.{Book}
 use Rattle.book.specs.declared.site.Site.{Site}
 use Rattle.book.specs.Forget.{forget}
-use Rattle.book.specs.Transactions.{site_of}
+use Rattle.book.specs.Judged.{site_of}
 use Rattle.book.specs.Hear.{hear_answer, heard, hear}
 use Rattle.book.proofs.Doing.{few}
 use Rattle.book.proofs.Laws.Answers.{and-accepted}

@@ -11,7 +11,7 @@ use Rattle.book.specs.Answers.{first_of}
 use Rattle.book.specs.Book.{place_of, open_at, open_of}
 use Rattle.book.specs.Forget.{decided}
 use Rattle.book.specs.Decide.{abort_answer}
-use Rattle.book.specs.Transactions.{open_tests}
+use Rattle.book.specs.Judged.{open_tests}
 use Rattle.book.proofs.Laws.Answers.{and-accepted}
 use Rattle.book.proofs.Judging.{refused-before, refused-last, accepted-last, sound_and_open}
 use Rattle.book.proofs.Book.may_abort.Goals as goal

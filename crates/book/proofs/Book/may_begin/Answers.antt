@@ -11,7 +11,7 @@ use Rattle.book.specs.declared.program.Program.{Program}
 use Rattle.book.specs.Answers.{accepted, first_of}
 use Rattle.book.specs.Programs.{steps}
 use Rattle.book.specs.States.{steps_of, program_of}
-use Rattle.book.specs.Begin.{program_tests, room_tests, room_of}
+use Rattle.book.specs.Judged.{program_tests, room_tests, room_of}
 use Rattle.book.proofs.Reading.{steps-read}
 use Rattle.book.proofs.Laws.Answers.{and-accepted, test-false}
 use Rattle.book.proofs.Judging.{refused-first, refused-second, accepted-both}

@@ -10,7 +10,7 @@ use Rattle.book.specs.declared.Refusal.TheVariants.{AlreadyDecided, NotReady}
 use Rattle.book.specs.Book.{place_of, open_at, open_of}
 use Rattle.book.specs.Forget.{decided}
 use Rattle.book.specs.Decide.{some_not_ready, complete_answer, abort_answer}
-use Rattle.book.specs.Transactions.{open_tests}
+use Rattle.book.specs.Judged.{open_tests}
 use Rattle.book.proofs.Laws.Answers.{and-accepted}
 use Rattle.book.proofs.Laws.Sound.{test-sound}
 use Rattle.book.proofs.Judging.{refused-before, refused-last, accepted-last, sound_and_open}

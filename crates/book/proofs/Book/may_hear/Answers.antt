@@ -12,7 +12,7 @@ use Rattle.book.specs.Answers.{first_of}
 use Rattle.book.specs.Book.{open_at, open_of}
 use Rattle.book.specs.Forget.{decided}
 use Rattle.book.specs.Hear.{hear_answer}
-use Rattle.book.specs.Transactions.{site_tests, site_of}
+use Rattle.book.specs.Judged.{site_tests, site_of}
 use Rattle.book.proofs.Laws.Answers.{and-accepted}
 use Rattle.book.proofs.Judging.{refused-before, refused-last, accepted-last, site_in}
 use Rattle.book.proofs.Book.may_hear.Goals as goal

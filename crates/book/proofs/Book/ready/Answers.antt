@@ -3,7 +3,8 @@ use mathlib.Core.Path.{sym, ap, ◌∙◌}
 use Rattle.conditions.specs.Places.{places}
 use Rattle.book.specs.declared.site.Site.{Site}
 use Rattle.book.specs.Answers.{accepted}
-use Rattle.book.specs.Transactions.{done, site_of}
+use Rattle.book.specs.Transactions.{done}
+use Rattle.book.specs.Judged.{site_of}
 use Rattle.book.specs.Ready.{ready_answer, readied, ready}
 use Rattle.book.proofs.Laws.Answers.{and-accepted}
 use Rattle.book.proofs.Laws.Calls.{ready-tests}

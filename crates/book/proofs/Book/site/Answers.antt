@@ -8,7 +8,8 @@ use Rattle.conditions.specs.Places.{places}
 use Rattle.book.specs.declared.Refusal.TheVariants.{NoDistrict}
 use Rattle.book.specs.Answers.{first_of}
 use Rattle.book.specs.Book.{place_of}
-use Rattle.book.specs.Transactions.{open_tests, no_district, site_of}
+use Rattle.book.specs.Transactions.{no_district}
+use Rattle.book.specs.Judged.{open_tests, site_of}
 use Rattle.book.proofs.Laws.Answers.{and-accepted}
 use Rattle.book.proofs.Judging.{refused-before, refused-last, accepted-last}
 use Rattle.book.proofs.Book.site.Goals as goal

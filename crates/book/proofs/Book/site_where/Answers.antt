@@ -7,7 +7,7 @@ use Rattle.std.specs.Prelude.{Err}
 use Rattle.conditions.specs.Places.{places}
 use Rattle.book.specs.declared.Refusal.TheVariants.{NotOnIt}
 use Rattle.book.specs.Answers.{first_of}
-use Rattle.book.specs.Transactions.{site_tests, site_of}
+use Rattle.book.specs.Judged.{site_tests, site_of}
 use Rattle.book.proofs.Doing.{district-row}
 use Rattle.book.proofs.Laws.Answers.{and-accepted}
 use Rattle.book.proofs.Judging.{refused-before, refused-last, accepted-last, site_in}
