@@ -2,17 +2,19 @@
 use mathlib.Core.Path.{◌≡◌, refl, sym, ap, ap₂, ◌∙◌}
 use mathlib.Core.Bool.{Bool, false, not, ◌||◌}
 use mathlib.Core.List.{List, [], ◌∷◌, ◌++◌, map-id}
-use Prim.Native.Nat.{ℕ, ◌+◌, ◌-◌, ◌*◌, ◌%◌, ◌≤◌, ◌<◌}
+use Prim.Native.Nat.{ℕ, ◌+◌, ◌-◌, ◌*◌, ◌%◌, ◌≤◌, ◌<◌, min}
 use native.Mathlib.Nat.{add_comm}
 use lib.Dec.{eqb}
 use lib.IntN.{ℤ}
-use lib.ListN.{length, get_or, take, replicate}
+use lib.ListN.{length, get_or, take, replicate, length-take}
 use lib.Seq.{take-length, take-append_seam}
 use Rattle.std.specs.List.{list_any}
 use borrow.Author.Tests.{ltb-false}
 use Rattle.conditions.proofs.Laws.Below.{or_left, or_right}
+use Rattle.conditions.proofs.Laws.Lists.{take_row}
 use Rattle.polyvalues.specs.Values.{of_bytes}
 use Rattle.book.specs.declared.Step.{Step}
+use Rattle.book.specs.declared.program.Program.{Program}
 use Rattle.book.specs.Book.{most_items}
 use Rattle.book.specs.Programs.{steps, some_step}
 use Rattle.book.specs.Begin.{most_steps, bad_length, bad_program, outside}
@@ -55,6 +57,16 @@ read_all xs i n e f is =
 pub steps-read : (xs : List Step) → steps_of (program_of xs) ≡ xs
 unfolding steps_of program_of
 steps-read xs = take-append_seam xs (replicate (most_steps - length xs) no_step)
+
+-- ---- the steps in use
+
+pub steps-count : (p : Program) → length (steps_of p) ≡ min p.count (length p.steps)
+unfolding steps_of
+steps-count p = length-take p.count p.steps
+
+step_row : (p : Program) (i : ℕ) → i < length (steps_of p) → get_or (steps_of p) i no_step ≡ get_or p.steps i no_step
+unfolding steps_of
+step_row p i h = take_row p.count p.steps i no_step h
 
 -- ---- a test of each step
 

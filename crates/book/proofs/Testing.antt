@@ -1,5 +1,5 @@
 -- The tests of soundness, as the code makes them.
-use mathlib.Core.Path.{◌≡◌, refl, sym, ap, ◌∙◌}
+use mathlib.Core.Path.{◌≡◌, refl, sym, ap, ap₂, ◌∙◌}
 use mathlib.Core.Bool.{Bool, true, false, not, ◌&&◌, cond, and-false}
 use mathlib.Core.List.{List, [], ◌∷◌}
 use Prim.Native.Nat.{ℕ, ◌+◌, ◌-◌, ◌≤◌, ◌<◌}
@@ -8,6 +8,7 @@ use borrow.Author.Tests.{le-leb, lt-ltb, le-ltb, leb-true, not-false}
 use lib.Dec.{eqb, leb, ltb}
 use lib.IntN.{pos}
 use lib.ListN.{length, get_or, drop, replicate}
+use lib.Seq.{take_all}
 use Rattle.std.specs.List.{list_all}
 use Rattle.book.proofs.Lists.{all_past}
 use Rattle.polyvalues.specs.declared.polyvalue.Pair.{Pair}
@@ -15,21 +16,36 @@ use Rattle.polyvalues.specs.declared.polyvalue.Polyvalue.{Polyvalue}
 use Rattle.polyvalues.specs.Pairs.{no_pair, assignments, blank}
 use Rattle.polyvalues.specs.Values.{equal}
 use Rattle.polyvalues.specs.Polyvalues.{each, most_pairs, rows_of, in_use, packed, AllRows, sound as sound_polyvalue}
-use Rattle.polyvalues.specs.Operations.{same, together}
+use Rattle.polyvalues.specs.Operations.{same_rows, same, together}
 use Rattle.polyvalues.proofs.Laws.Packed.{sound-well_formed}
 use Rattle.polyvalues.proofs.Laws.Paired.{rows_long}
 use Rattle.polyvalues.proofs.Known.{Held, all-rows}
-use Rattle.conditions.specs.Below.{all}
+use Rattle.conditions.specs.Below.{all, first}
+use Rattle.conditions.specs.Places.{places}
 use Rattle.conditions.proofs.Laws.Below.{and_left, and_right, by_cases, all_same, all-plus}
 use Rattle.book.specs.declared.Record.{Record}
 use Rattle.book.specs.declared.Item.{Item}
+use Rattle.book.specs.declared.Open.{Open}
 use Rattle.book.specs.declared.Book.{Book}
-use Rattle.book.specs.Book.{most_districts, most_items, good_counts, last_number, no_record, no_item, void_item, record_on, item_at, item_on, place_of, item_depends}
-use Rattle.book.specs.SoundTest.{implies, same_polyvalue, same_item, sound_pending, sound_row, sound_item}
+use Rattle.book.specs.Book.{most_districts, most_items, good_counts, last_number, no_record, no_item, void_item, no_open, record_on, item_at, item_on, named, place_of, item_depends}
+use Rattle.book.specs.SoundTest.{implies, same_condition, same_polyvalue, same_item, sound_pending, sound_row, sound_item}
 use Rattle.book.proofs.Laws.Same.{same-paired, same-polyvalue}
 use Rattle.book.proofs.Laws.Room.{together-self}
 
 -- ---- all rows
+
+-- a polyvalue with all its rows in use
+abbrev pub whole : Polyvalue → Polyvalue
+whole q = record { count = most_pairs; values = q.values; conditions = q.conditions }
+
+pub whole_same : {q r : Polyvalue} → Held q → Held r → same (in_use (whole q)) (in_use (whole r))
+    ≡ (same_rows equal q.values r.values && same_rows same_condition q.conditions r.conditions)
+unfolding in_use
+whole_same {q} {r} h l =
+    let all : AllRows q = all-rows h in
+    let other : AllRows r = all-rows l in
+    ap₂ same (take_all most_pairs (rows_of q) (omega (arith, rows_long all))) (take_all most_pairs (rows_of r) (omega (arith, rows_long other)))
+    ∙ same-paired q.values r.values q.conditions r.conditions (all.values ∙ sym all.conditions) (other.values ∙ sym other.conditions)
 
 -- rows that are all blank are rows of zeros
 blank-same : (ps : List Pair) → each blank ps ≡ same ps (replicate (length ps) no_pair)
@@ -43,6 +59,12 @@ nothing-same {q} h =
     ap (λ (b : Bool). eqb q.count 0 && b)
     (blank-same (rows_of q) ∙ ap (λ (n : ℕ). same (rows_of q) (replicate n no_pair)) (rows_long all)
     ∙ same-paired q.values (packed []).values q.conditions (packed []).conditions (all.values ∙ sym all.conditions) refl)
+
+-- ---- the place of a transaction
+
+pub place_in : (b : Book) (n : ℕ) {os : List Open} {q : ℕ} → b.«open» ≡ os → q ≡ first places (λ q. named n (get_or os q no_open)) → q ≡ place_of places b n
+unfolding place_of
+place_in b n e f = f ∙ ap (λ (l : List Open). first places (λ q. named n (get_or l q no_open))) (sym e)
 
 -- ---- what the sets say of a district: touched t, ready r, given up g, completed x
 

@@ -108,7 +108,7 @@ pub(crate) fn item_depends(x: Item, q: Place) -> bool
 fn is_certain(p: Polyvalue) -> bool
     ensures { result ≡ true → (q : ℕ) → depends place_count (in_use p) q ≡ false }
 {
-    p.count == 1 && p.conditions[0] == Condition::FULL
+    p.count == 1 && p.conditions[0].same(Condition::FULL)
 }
 
 // Whether both of the item's are.

@@ -113,6 +113,15 @@ next-is w c from limit {r} h e =
       found = λ l. ap (λ (q : ℕ). prime w q c) e ∙ first_passes (limit - from) f (omega arith);
     }
 
+-- one place more that does not matter
+pub free_more : (w c i : ℕ) → 0 < i → depends_on w c (i - 1) ≡ false → ((j : ℕ) → i ≤ j → j < w → depends_on w c j ≡ false)
+    → (j : ℕ) → i - 1 ≤ j → j < w → depends_on w c j ≡ false
+free_more w c i h e free j l k = pick (dec_lt j i)
+  where
+    pick : Dec (j < i) → depends_on w c j ≡ false
+    pick (yes b) = let q : j ≡ i - 1 = omega arith in ap (depends_on w c) q ∙ e
+    pick (no b) = free j (omega arith) k
+
 -- `3 ^ m`, where no place from m on matters
 pub none-high : (w c m : ℕ) {r : ℕ} → r ≡ 3 ^ m → ((i : ℕ) → m ≤ i → i < w → depends_on w c i ≡ false) → NonePrime w c r (3 ^ w)
 none-high w c m e free j l = prime-low w c m free _ (omega arith) (omega arith)

@@ -1,5 +1,5 @@
 -- How the search for prime products skips, for any number w of places: the tags of p are read from the highest place down, and `set` is what they leave of the condition.
-use mathlib.Core.Path.{◌≡◌, sym, ap, ap₂, ◌∙◌}
+use mathlib.Core.Path.{◌≡◌, refl, sym, ap, ap₂, ◌∙◌}
 use mathlib.Core.Bool.{Bool, false, not, ◌&&◌, ◌||◌, and-not_self}
 use Prim.Native.Nat.{ℕ, suc, ◌+◌, ◌-◌, ◌*◌, ◌/◌, ◌%◌, ◌^◌, ◌≤◌, ◌<◌}
 use native.Mathlib.Nat.{le_refl, mod-lt, one-le-pow, zero-lt-suc, pow-suc, pow-succ', div-add-mod'}
@@ -70,6 +70,10 @@ pub record Walk (w c p i set rest scale : ℕ) : Type 0 where
   pub scaled : scale ≡ 3 ^ i
   pub lower : rest ≡ p % 3 ^ i
   pub leaves : (q : ℕ) → ((j : ℕ) → i ≤ j → j < w → tag_at q j ≡ tag_at p j) → within i q set ≡ within w q c
+
+-- before the highest place none is read
+pub walk_begins : (w c p : ℕ) → Walk w c p w c (p % 3 ^ w) (3 ^ w)
+walk_begins w c p = record { up_to = le_refl w; scaled = refl; lower = refl; leaves = λ q same. refl }
 
 -- what the next place counts
 scale-is : (k : ℕ) {i scale : ℕ} → i ≡ suc k → scale ≡ 3 ^ i → scale / 3 ≡ 3 ^ k

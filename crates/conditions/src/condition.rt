@@ -34,7 +34,7 @@ impl Condition {
     }
 
     // Whether two conditions have the same members.
-    // kept: docs/PROMISES.md names `Condition::same` for equality, with its contract; `==` is derived.
+    // kept: docs/PROMISES.md names it for equality, and soundness goes through its contract.
     pub fn same(self, other: Condition) -> bool
         ensures { result ≡ eqb (number self) (number other) }
     {

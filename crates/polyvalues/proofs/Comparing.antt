@@ -1,6 +1,6 @@
 -- Two lists of pairs side by side, row by row.
 use mathlib.Core.Path.{◌≡◌, refl, sym, ap, ap₂, ◌∙◌}
-use mathlib.Core.Bool.{Bool, true, false, not, ◌&&◌, ◌||◌, true≢false}
+use mathlib.Core.Bool.{Bool, true, false, not, ◌&&◌, ◌||◌, false≢true, true≢false}
 use mathlib.Core.List.{List, [], ◌∷◌, ◌++◌, map, append-nil}
 use Prim.Native.Nat.{ℕ, suc, ◌+◌, ◌<◌}
 use native.Mathlib.Numerals.{add-one}
@@ -14,7 +14,7 @@ use lib.ListN.{length, get_or, drop}
 use mir.Val.{bool_byte}
 use Rattle.conditions.specs.Sets.{digit}
 use Rattle.conditions.specs.Conditions.{number}
-use Rattle.conditions.proofs.Laws.Below.{and-swap, by_cases}
+use Rattle.conditions.proofs.Laws.Below.{and_right, and-swap, by_cases}
 use Rattle.polyvalues.specs.declared.polyvalue.Pair.{Pair}
 use Rattle.polyvalues.specs.declared.polyvalue.Polyvalue.{Polyvalue}
 use Rattle.polyvalues.specs.Values.{equal}
@@ -27,6 +27,15 @@ use Rattle.polyvalues.proofs.Inserting.{in_use-row}
 use Rattle.polyvalues.proofs.Joining.{packed-in_use}
 
 -- ---- the same pairs
+
+same_length : (ps qs : List Pair) → same ps qs ≡ true → length ps ≡ length qs
+same_length [] [] e = refl
+same_length [] (q ∷ qs) e = absurd (false≢true e)
+same_length (p ∷ ps) [] e = absurd (false≢true e)
+same_length (p ∷ ps) (q ∷ qs) e = ap suc (same_length ps qs (and_right (equal p.value q.value && eqb (assignments p) (assignments q)) (same ps qs) e))
+
+pub same_not : (ps qs : List Pair) → (length ps ≡ length qs → ⊥) → false ≡ same ps qs
+same_not ps qs n = by_cases (same ps qs) (λ e. absurd (n (same_length ps qs e))) sym
 
 equal-is : (x y : ℤ) → int_eq x y ≡ equal x y
 equal-is x y =

@@ -6,7 +6,7 @@ use native.Mathlib.Numerals.{add-one}
 use native.Mathlib.Omega.{arith}
 use lib.IntN.{ℤ, pos}
 use lib.ListN.{length, get_or, take, drop, set, replicate, length-take, length-drop, length-map, take-append-drop, drop_of_length-le}
-use lib.Seq.{take-suc, take_at, set_at}
+use lib.Seq.{drop-cons, take-suc, take-suc-set, drop-set-lt, take_at, set_at}
 use Rattle.std.specs.List.{copy_within}
 use Rattle.std.proofs.lemmas.List.{take-map, drop-map, map-append, map-set, drop-drop}
 use borrow.Rule.Slice.PartMut.{post_of, put_mid, Post-is}
@@ -18,6 +18,19 @@ use Rattle.polyvalues.specs.Pairs.{no_pair}
 use Rattle.polyvalues.specs.Polyvalues.{most_pairs, rows_of, in_use, padded, packed, AllRows, paired}
 use Rattle.polyvalues.specs.Rows.{carried, moved}
 use Rattle.polyvalues.proofs.Laws.Paired.{values-paired, conditions-paired, paired-is, packed-is, rows_long}
+
+-- one row more has moved
+pub moved_more : (i n : ℕ) (p : Pair) (ps : List Pair) → i ≤ n → i < length ps
+    → moved (suc i) n (get_or ps i no_pair) (set ps i p) ≡ moved i n p ps
+moved_more i n p ps h l =
+    let e : suc n - suc i ≡ n - i = omega arith in
+    let f : suc n - i ≡ suc (n - i) = omega arith in
+    rw (take-suc-set ps i p l, drop-set-lt (suc i) ps i p (omega arith), drop-cons ps i no_pair l, e, f)
+    (append_assoc (take i ps) (p ∷ []) (carried (n - i) (get_or ps i no_pair) (drop (suc i) ps)))
+
+-- past the last one nothing is left to move
+pub moved_all : (i n : ℕ) (p : Pair) (ps : List Pair) → n < i → moved i n p ps ≡ ps
+moved_all i n p ps h = let e : suc n - i ≡ 0 = omega arith in rw e (take-append-drop i ps)
 
 -- the last of the rows that move is written over
 carried-is : (m : ℕ) (p : Pair) (ps : List Pair) → m < length ps → carried (suc m) p ps ≡ p ∷ take m ps ++ drop (suc m) ps

@@ -16,9 +16,8 @@ use Rattle.polyvalues.specs.declared.polyvalue.Polyvalue.{Polyvalue}
 use Rattle.polyvalues.specs.Values.{below, equal}
 use Rattle.polyvalues.specs.Polyvalues.{AllRows}
 use Rattle.polyvalues.specs.Rows.{value_at, PlaceOf, has_at}
-use Rattle.polyvalues.proofs.Laws.Values.{equal-refl, not_equal, below-not, below_apart, below-back, below-else}
+use Rattle.polyvalues.proofs.Laws.Values.{equal-refl, equal-true, equal-false, not_equal, below-not, below_apart, below-back, below-else}
 use Rattle.polyvalues.proofs.Laws.Paired.{paired_at}
-use Rattle.polyvalues.proofs.Bits.{same_bits}
 use Rattle.polyvalues.proofs.Known.{Held, all-rows, value-fits}
 
 -- the value of a row before the count
@@ -65,13 +64,15 @@ module _ {q : Polyvalue} (held : Held q) {v : ℤ} (fits : SFits w16 v) (k : ℕ
   read-fits : SFits w16 read
   read-fits = rw (get_or-take q.count q.values k (pos 0) inside) (value-fits held k)
 
-  pub read-same : of_z w16 read ≡ of_z w16 v → PlaceOf q v k × (has_at q k v ≡ true)
-  read-same e = place-same q v k (rw (to_z-of_z fits) at before) inside (sym there ∙ same_bits read-fits fits e)
+  pub read-same : equal (to_z w16 (of_z w16 read)) (to_z w16 (of_z w16 v)) ≡ true → PlaceOf q v k × (has_at q k v ≡ true)
+  read-same e = place-same q v k (rw (to_z-of_z fits) at before) inside (sym there ∙ equal-true read v (rw (to_z-of_z fits, to_z-of_z read-fits) at e))
 
   pub read-new : below (to_z w16 (of_z w16 v)) (to_z w16 (of_z w16 read)) ≡ true → PlaceOf q v k × (has_at q k v ≡ false)
   read-new l = place-new q v k (rw (to_z-of_z fits) at before) inside (rw (to_z-of_z fits, to_z-of_z read-fits, there) at l)
 
-  pub read-more : (of_z w16 read ≡ of_z w16 v → ⊥) → below (to_z w16 (of_z w16 v)) (to_z w16 (of_z w16 read)) ≡ false
+  pub read-more : equal (to_z w16 (of_z w16 read)) (to_z w16 (of_z w16 v)) ≡ false → below (to_z w16 (of_z w16 v)) (to_z w16 (of_z w16 read)) ≡ false
       → (j : ℕ) → j < k + 1 → below (value_at q j) (to_z w16 (of_z w16 v)) ≡ true
   read-more apart h =
-      rw (to_z-of_z fits) (place-more q v k (rw (to_z-of_z fits) at before) (λ e. apart (ap (of_z w16) (there ∙ e))) (rw (to_z-of_z fits, to_z-of_z read-fits, there) at h))
+      rw (to_z-of_z fits)
+      (place-more q v k (rw (to_z-of_z fits) at before) (λ e. equal-false read v (rw (to_z-of_z fits, to_z-of_z read-fits) at apart) (there ∙ e))
+      (rw (to_z-of_z fits, to_z-of_z read-fits, there) at h))

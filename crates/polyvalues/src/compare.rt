@@ -7,10 +7,13 @@ ghost use Rattle.polyvalues.specs.Polyvalues.{most_pairs, in_use};
 ghost use Rattle.polyvalues.specs.Operations.{occurs, different, together, same};
 
 use crate::polyvalue::Polyvalue;
+use crate::value::equal;
 
 impl Polyvalue {
     // Whether two polyvalues are the same pairs.
-    // kept: docs/PROMISES.md names it, of the rows in use; == compares those past the count too.
+    // kept: the definition is of the rows in use; == compares those past the count too. Inlined, where the
+    // counts are known it compares whole arrays, as == does.
+    #[inline(always)]
     pub fn same(self, other: Polyvalue) -> bool
         ensures { result ≡ same (in_use self) (in_use other) }
     {
@@ -23,7 +26,9 @@ impl Polyvalue {
         requires { from ≤ length (in_use self) }
         ensures { result ≡ occurs value (drop from (in_use self)) }
     {
-        self.values[from..self.len()].iter().any(|v| value == *v)
+        self.values[from..self.len()]
+            .iter()
+            .any(|v| equal(value, *v))
     }
 
     // What row i adds to the values of the rows after it and of the other polyvalue: 1 or nothing.

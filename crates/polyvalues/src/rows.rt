@@ -11,6 +11,7 @@ ghost use Rattle.polyvalues.specs.Simplify.{insert, join};
 ghost use Rattle.polyvalues.specs.Rows.{PlaceOf, has_at, moved};
 
 use crate::polyvalue::{PAIRS, Pair, Polyvalue};
+use crate::value::{below, equal};
 
 // The row in use that has the value, or where a new one goes: before the first higher one.
 // kept: what may not change: any count may be handed in (refusals, "nine pairs"): no invariant on it.
@@ -19,10 +20,10 @@ fn place_of(q: Polyvalue, value: i16) -> Result<usize, usize>
     ensures { MatchResult result (λ k. PlaceOf q value k × (has_at q k value ≡ true)) (λ k. PlaceOf q value k × (has_at q k value ≡ false)) }
 {
     for (k, v) in q.values[..q.count].iter().enumerate() {
-        if *v == value {
+        if equal(*v, value) {
             return Ok(k);
         }
-        if *v > value {
+        if below(value, *v) {
             return Err(k);
         }
     }

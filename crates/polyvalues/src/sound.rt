@@ -9,7 +9,7 @@ ghost use Rattle.polyvalues.specs.Polyvalues.{each, most_pairs, rows_of, in_use,
 ghost use Rattle.polyvalues.specs.Checked.{row_fits, checked_from, below_all};
 
 use crate::polyvalue::{PAIRS, Pair, Polyvalue};
-use crate::value::in_range;
+use crate::value::{below, in_range};
 use conditions::Condition;
 
 impl Pair {
@@ -32,7 +32,7 @@ impl Pair {
     fn follows(self, row: Pair, covered: Condition) -> bool
         ensures { result ≡ row_fits places row.value (number covered) self }
     {
-        row.value < self.value
+        below(row.value, self.value)
             && self.in_range()
             && !self.condition.is_empty()
             && covered.intersection(self.condition).is_empty()
@@ -86,7 +86,7 @@ impl Polyvalue {
             covered = covered.union(row.condition);
             last = row;
         }
-        covered == Condition::FULL
+        covered.same(Condition::FULL)
     }
 
     // Whether it is a polyvalue: 1 to 8 pairs, values strictly rising, no condition empty, each

@@ -1,13 +1,13 @@
 -- What playing an event gives, once its line is put.
 use mathlib.Core.Path.{◌≡◌, refl, sym, ap, ◌∙◌}
 use mathlib.Core.List.{List, [], ◌∷◌, ◌++◌}
-use Prim.Native.Nat.{ℕ, ◌≤◌}
+use Prim.Native.Nat.{ℕ, ◌≤◌, ◌<◌}
 use native.Mathlib.Omega.{arith}
 use lib.ListN.{length, replicate}
-use borrow.Author.Tests.{le-leb}
+use borrow.Author.Tests.{le-leb, lt-leb}
 use Rattle.std.specs.Prelude.{Ok, Err}
 use Rattle.conditions.specs.Text.{bytes}
-use Rattle.conditions.specs.Written.{Put}
+use Rattle.conditions.specs.Written.{no_room, Put}
 use Rattle.book.specs.declared.Refusal.{Refusal}
 use Rattle.book.specs.declared.Book.{Book}
 use Rattle.book.specs.Answers.{Answer}
@@ -55,6 +55,11 @@ module _ (w : ℕ) (b : Book) (i position : ℕ) where
 -- ---- the call
 
 module _ (w : ℕ) (b : Book) (s : List ℕ) (e : Event) (position : ℕ) (l : List ℕ) where
+  pub too_short : length l < longest_line
+      → (record { written = Err no_room; book = b } ≡ played w b s e position l) × (l ≡ played_buffer w b s e position l)
+  unfolding played played_buffer line_answer line_written
+  too_short h = let short = lt-leb longest_line (length l) h in (rw short, rw short)
+
   pub was-played : longest_line ≤ length l → {x : EventResult} {r : Played} {m : List ℕ} → Plays x position l r m → x ≡ event_result w b s e
       → (r ≡ played w b s e position l) × (m ≡ played_buffer w b s e position l)
   unfolding played played_buffer line_answer line_written

@@ -1,5 +1,5 @@
 -- The readers of bytes, words and parts at a place of a sheet s, as the code tests it.
-use mathlib.Core.Path.{◌≡◌, refl, ap}
+use mathlib.Core.Path.{◌≡◌, refl, sym, ap, ◌∙◌}
 use mathlib.Core.Bool.{Bool, true, false, cond}
 use mathlib.Core.List.{List, [], ◌∷◌}
 use Prim.Native.Nat.{ℕ, ◌+◌, ◌-◌, ◌*◌, ◌^◌, ◌≤◌, ◌<◌}
@@ -14,8 +14,26 @@ use Rattle.conditions.proofs.Laws.Below.{by_cases}
 use Rattle.polyvalues.specs.Values.{in_range, signed}
 use Rattle.sheet.specs.Readers.{Read, wrong, right, and_then, byte, word, part, end, any}
 use Rattle.sheet.specs.Sections.{code, value}
+use Rattle.sheet.proofs.Laws.Open.{no_read}
 
 -- ---- a byte
+
+-- what a byte of any kind tells of one that has to pass a test
+module _ (test : ℕ → Bool) (at : ℕ) where
+  pub no_byte : (l : List ℕ) {place : ℕ} → byte any at l ≡ wrong place → byte test at l ≡ wrong place
+  unfolding byte
+  no_byte [] e = e
+  no_byte (b ∷ l) e = no_read (sym e)
+
+  pub good-byte : (l : List ℕ) {b next : ℕ} {rest : List ℕ} → byte any at l ≡ right b next rest → test b ≡ true → byte test at l ≡ right b next rest
+  unfolding byte
+  good-byte [] e t = no_read e
+  good-byte (c ∷ l) {b} e t = let same : c ≡ b = cc in rw (same, t) (cc)
+
+  pub bad-byte : (l : List ℕ) {b next : ℕ} {rest : List ℕ} → byte any at l ≡ right b next rest → test b ≡ false → byte test at l ≡ wrong at
+  unfolding byte
+  bad-byte [] e t = no_read e
+  bad-byte (c ∷ l) {b} e t = let same : c ≡ b = cc in rw (same, t)
 
 -- a byte that has to pass a test is any byte, and then the test
 pub tested_byte : (test : ℕ → Bool) (at : ℕ) (l : List ℕ) → byte test at l ≡ and_then (byte any at l) (λ b next rest. cond (test b) (right b next rest) (wrong at))
@@ -40,6 +58,37 @@ module _ (s : List ℕ) (at : ℕ) where
   pub byte_there : at < length s → byte any at (drop at s) ≡ right (get_or s at 0) (at + 1) (drop (at + 1) s)
   unfolding byte
   byte_there h = rw (drop-one s at h)
+
+-- ---- a word
+
+drop-two : (s : List ℕ) (at : ℕ) → 2 ≤ length s - at → drop at s ≡ get_or s at 0 ∷ get_or s (at + 1) 0 ∷ drop (at + 2) s
+drop-two s at h =
+    let e : at + 1 + 1 ≡ at + 2 = omega arith in
+    drop-one s at (omega arith) ∙ ap (λ (l : List ℕ). get_or s at 0 ∷ l) (rw e at (drop-one s (at + 1) (omega arith)))
+
+-- the number that the two bytes at a place are
+abbrev pub word_at : List ℕ → ℕ → ℕ
+word_at s at = get_or s at 0 * 2 ^ 8 + get_or s (at + 1) 0
+
+module _ (test : ℕ → Bool) where
+  word-few : (at : ℕ) (l : List ℕ) → length l < 2 → word test at l ≡ wrong (at + length l)
+  unfolding word
+  word-few at [] h = ap wrong (omega arith)
+  word-few at (b ∷ []) h = refl
+  word-few at (b ∷ c ∷ l) h = absurd (omega arith)
+
+  module _ (s : List ℕ) (at : ℕ) where
+    pub word-short : {left : ℕ} → left ≡ length s - at → left < 2 → word test at (drop at s) ≡ wrong (at + left)
+    word-short e h = word-few at (drop at s) (simp length-drop (omega arith)) ∙ ap (λ (n : ℕ). wrong (at + n)) (length-drop at s ∙ sym e)
+
+    module _ (h : 2 ≤ length s - at) where
+      pub word_good : test (word_at s at) ≡ true → word test at (drop at s) ≡ right (word_at s at) (at + 2) (drop (at + 2) s)
+      unfolding word
+      word_good e = rw (drop-two s at h, e)
+
+      word-bad : test (word_at s at) ≡ false → word test at (drop at s) ≡ wrong at
+      unfolding word
+      word-bad e = rw (drop-two s at h, e)
 
 -- ---- two bytes
 

@@ -8,12 +8,12 @@ use Prim.Native.Char.{code}
 use native.Mathlib.Omega.{arith}
 use lib.ListN.{length, take, drop, length-append, length-drop, drop_of_length-le}
 use lib.Seq.{take-nil, take_all, sets, sets-eq, drop-append-add, drop-drop}
-use borrow.Author.Tests.{le-leb, leb-true, leb-false}
+use borrow.Author.Tests.{le-leb, lt-leb, leb-true, leb-false}
 use borrow.Rule.Slice.PartMut.{put_mid}
 use Rattle.conditions.proofs.Laws.Below.{by_cases}
-use Rattle.std.specs.Prelude.{Ok}
+use Rattle.std.specs.Prelude.{Ok, Err}
 use Rattle.conditions.specs.Text.{bytes, decimal, prefixed, joined}
-use Rattle.conditions.specs.Written.{written, Put}
+use Rattle.conditions.specs.Written.{no_room, written, Put}
 use Rattle.conditions.proofs.Laws.Text.{decimal-some, decimal-le, decimal-one, prefixed-snoc}
 use Rattle.conditions.proofs.Putting.{put-length, put_then, put_written}
 use Rattle.book.specs.Answers.{Answer, answer_number, accepted}
@@ -23,9 +23,13 @@ use Rattle.sheet.specs.Plays.{field, head, Puts}
 
 -- ---- the bytes from a place up to another
 
+module _ (s : List ℕ) (from to : ℕ) where
+  pub none_between : to ≤ from → [] ≡ take (to - from) (drop from s)
+  none_between h = let e : to - from ≡ 0 = omega arith in rw e
+
 module _ (s : List ℕ) (from to : ℕ) {start end : ℕ} (first : start ≡ min from end) (last : end ≡ min to (length s)) where
-  none_between : end ≤ from → take (end - start) (drop start s) ≡ take (to - from) (drop from s)
-  none_between h =
+  none_inside : end ≤ from → take (end - start) (drop start s) ≡ take (to - from) (drop from s)
+  none_inside h =
       let none : end - start ≡ 0 = omega arith in
       rw none (by_cases (leb to from) (λ t. let h : to ≤ from = leb-true to from t in let e : to - from ≡ 0 = omega arith in rw e)
       (λ t. let h : from < to = leb-false to from t in let past : length s ≤ from = omega arith in rw (drop_of_length-le s past) (sym (take-nil (to - from)))))
@@ -39,7 +43,7 @@ module _ (s : List ℕ) (from to : ℕ) {start end : ℕ} (first : start ≡ min
       rw e (take_all (length s - from) (drop from s) (rw (length-drop from s) (omega arith)) ∙ sym (take_all (to - from) (drop from s) long))))
 
   pub within : take (end - start) (drop start s) ≡ take (to - from) (drop from s)
-  within = by_cases (leb end from) (λ t. none_between (leb-true end from t)) (λ t. some_between (leb-false end from t))
+  within = by_cases (leb end from) (λ t. none_inside (leb-true end from t)) (λ t. some_between (leb-false end from t))
 
 -- ---- texts behind what a line has
 
@@ -105,6 +109,10 @@ line-written p h = (omega (arith, p.ends), put_written (omega arith) p)
 
 -- what is answered of it
 module _ (l t : List ℕ) where
+  pub line-short : length l < longest_line → (Err no_room ≡ line_answer l t) × (l ≡ line_written l t)
+  unfolding line_answer line_written
+  line-short h = let short = lt-leb longest_line (length l) h in (rw short, rw short)
+
   pub line-given : {m : List ℕ} {end : ℕ} → longest_line ≤ length l → Put l m 0 end t → end ≤ length l → (Ok end ≡ line_answer l t) × (m ≡ line_written l t)
   unfolding line_answer line_written
   line-given {m} {end} h p k =

@@ -47,6 +47,7 @@ pub struct Found {
 impl Reader<'_> {
     // A begin: the count of its program's steps, and their bytes.
     #[tactic(auto, unfolding(crate::specs::Events::program))]
+    #[inline(always)]
     fn program(&mut self) -> Result<Event, Wrong>
         ensures { Reads program self.old self.new result }
     {
@@ -57,6 +58,7 @@ impl Reader<'_> {
     }
 
     // A transaction number.
+    #[inline(always)]
     fn number(&mut self) -> Result<TransactionNumber, Wrong>
         ensures { ReadsAs (λ n. n.0) (word any) self.old self.new result }
     {
@@ -66,6 +68,7 @@ impl Reader<'_> {
     // What stands behind an event's kind.
     // kept: no plainer: a kind (`fields`) becomes its `Event` here; an enum between would name all seven twice.
     #[tactic(auto, unfolding(crate::specs::Events::fields, crate::specs::Events::at_district, crate::specs::Events::on_number, crate::specs::Events::of_item))]
+    #[inline(always)]
     fn fields(&mut self, kind: usize) -> Result<Event, Wrong>
         ensures { Reads (fields kind) self.old self.new result }
     {
@@ -95,6 +98,7 @@ impl Reader<'_> {
 
     // An event.
     #[tactic(auto, unfolding(crate::specs::Events::event))]
+    #[inline(always)]
     pub(crate) fn event(&mut self) -> Result<Event, Wrong>
         ensures { Reads event self.old self.new result }
     {

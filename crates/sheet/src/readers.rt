@@ -10,7 +10,8 @@ use polyvalues::{in_range, of_bytes};
 #[derive(Clone, Copy, Debug, PartialEq, Eq)]
 pub struct Wrong(pub usize);
 
-// The sheet, and the place where the next reading begins.
+// The sheet, and the place where the next reading begins. What reads by it is inlined, so that the place
+// is kept at hand: an event takes half the time so.
 #[derive(Drop)]
 pub(crate) struct Reader<'a> {
     pub(crate) sheet: &'a [u8],
@@ -20,6 +21,7 @@ pub(crate) struct Reader<'a> {
 impl Reader<'_> {
     // A byte.
     #[tactic(auto, using(crate::proofs::Reading::byte_past, crate::proofs::Reading::byte_there))]
+    #[inline(always)]
     pub(crate) fn byte(&mut self) -> Result<u8, Wrong>
         ensures { Reads (byte any) self.old self.new result }
     {
@@ -30,6 +32,7 @@ impl Reader<'_> {
 
     // A byte from the lowest to the highest.
     #[tactic(auto, using(crate::proofs::Reading::tested_byte))]
+    #[inline(always)]
     pub(crate) fn byte_between(&mut self, low: usize, high: usize) -> Result<usize, Wrong>
         ensures reads { Reads (byte (between low high)) self.old self.new result }
         ensures value_le_high { IfOk result (λ n. n ≤ high) }
@@ -44,6 +47,7 @@ impl Reader<'_> {
 
     // Two bytes, high first.
     #[tactic(auto, using(crate::proofs::Reading::two_bytes))]
+    #[inline(always)]
     fn two(&mut self) -> Result<(u8, u8), Wrong>
         ensures { ReadsAs (λ b. b.0 * 2 ^ 8 + b.1) (word any) self.old self.new result }
     {
@@ -53,6 +57,7 @@ impl Reader<'_> {
     }
 
     // Two bytes that are a number.
+    #[inline(always)]
     pub(crate) fn word(&mut self) -> Result<u16, Wrong>
         ensures { Reads (word any) self.old self.new result }
     {
@@ -62,6 +67,7 @@ impl Reader<'_> {
 
     // Two bytes that are a value in two's complement.
     #[tactic(auto, using(crate::proofs::Reading::value_of), unfolding(polyvalues::specs::Values::of_bytes))]
+    #[inline(always)]
     pub(crate) fn value(&mut self) -> Result<i16, Wrong>
         ensures { Reads value self.old self.new result }
     {
@@ -76,6 +82,7 @@ impl Reader<'_> {
 
     // So many bytes, whatever they are.
     #[tactic(auto, using(crate::proofs::Reading::part_good, crate::proofs::Reading::part_short))]
+    #[inline(always)]
     pub(crate) fn part(&mut self, n: usize) -> Result<(), Wrong>
         ensures { ReadsAs (λ _. take n (left self.old)) (part n) self.old self.new result }
     {

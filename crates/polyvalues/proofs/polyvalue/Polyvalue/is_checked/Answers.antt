@@ -26,5 +26,5 @@ loop-i-preserved c =
 pub returns : goal.returns
 unfolding checked_from
 returns c =
-    c.eq.ensures ∙ ap (eqb c.loop-i.covered.0) always-full
+    c.same.ensures ∙ ap (eqb c.loop-i.covered.0) always-full
     ∙ rw (drop_of_length-le (in_use c.args.self) {i = c.loop-i.i} (omega (arith, c.len-i-end.ensures.value))) at c.loop-i.invariant
