@@ -1,13 +1,15 @@
--- Programs in rows: the steps in use, how bytes are read into a program, and a test of each step.
+-- Programs in rows: what holding one tells of it, the steps in use, how bytes are read into a program, and a test of each step.
 use mathlib.Core.Path.{◌≡◌, refl, sym, ap, ap₂, ◌∙◌}
 use mathlib.Core.Bool.{Bool, false, not, ◌||◌}
 use mathlib.Core.List.{List, [], ◌∷◌, ◌++◌, map-id}
 use Prim.Native.Nat.{ℕ, ◌+◌, ◌-◌, ◌*◌, ◌%◌, ◌≤◌, ◌<◌, min}
 use native.Mathlib.Nat.{add_comm}
+use denote.Shadow.{shadow}
 use lib.Dec.{eqb}
 use lib.IntN.{ℤ}
 use lib.ListN.{length, get_or, take, replicate, length-take}
 use lib.Seq.{take-length, take-append_seam}
+use mir.Val.{Val}
 use Rattle.std.specs.List.{list_any}
 use borrow.Author.Tests.{ltb-false}
 use Rattle.conditions.proofs.Laws.Below.{or_left, or_right}
@@ -15,6 +17,7 @@ use Rattle.conditions.proofs.Laws.Lists.{take_row}
 use Rattle.polyvalues.specs.Values.{of_bytes}
 use Rattle.book.specs.declared.Step.{Step}
 use Rattle.book.specs.declared.program.Program.{Program}
+use Rattle.book.specs.contracts.program.Program as TProgram
 use Rattle.book.specs.Book.{most_items}
 use Rattle.book.specs.Programs.{steps, some_step}
 use Rattle.book.specs.Begin.{most_steps, bad_length, bad_program, outside}
@@ -22,6 +25,14 @@ use Rattle.book.specs.States.{no_step, steps_of, program_of}
 use Rattle.book.proofs.Laws.Steps.{get_or-steps}
 use Rattle.book.proofs.Filling.{filled_upto}
 use Rattle.book.proofs.Naming.{some-none}
+
+-- p is a value that code holds
+pub record Held (p : Program) : Type 0 where
+  pub values : List Val
+  pub own : shadow ((TProgram.the_field).row.own_val ((TProgram.the_field).into p) values)
+
+pub steps-long : {p : Program} → Held p → length p.steps ≡ most_steps
+steps-long {p} h = h.own.1.1.1.0.1.0.1
 
 -- ---- a program as bytes
 
