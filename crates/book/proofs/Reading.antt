@@ -2,12 +2,12 @@
 use mathlib.Core.Path.{◌≡◌, refl, sym, ap, ap₂, ◌∙◌}
 use mathlib.Core.Bool.{Bool, false, not, ◌||◌}
 use mathlib.Core.List.{List, [], ◌∷◌, ◌++◌, map-id}
-use Prim.Native.Nat.{ℕ, ◌+◌, ◌-◌, ◌*◌, ◌%◌, ◌≤◌, ◌<◌, min}
+use Prim.Native.Nat.{ℕ, ◌+◌, ◌-◌, ◌*◌, ◌%◌, ◌≤◌, ◌<◌}
 use native.Mathlib.Nat.{add_comm}
 use denote.Shadow.{shadow}
 use lib.Dec.{eqb}
 use lib.IntN.{ℤ}
-use lib.ListN.{length, get_or, take, replicate, length-take}
+use lib.ListN.{length, get_or, take, replicate}
 use lib.Seq.{take-length, take-append_seam}
 use mir.Val.{Val}
 use Rattle.std.specs.List.{list_any}
@@ -70,10 +70,6 @@ unfolding steps_of program_of
 steps-read xs = take-append_seam xs (replicate (most_steps - length xs) no_step)
 
 -- ---- the steps in use
-
-pub steps-count : (p : Program) → length (steps_of p) ≡ min p.count (length p.steps)
-unfolding steps_of
-steps-count p = length-take p.count p.steps
 
 step_row : (p : Program) (i : ℕ) → i < length (steps_of p) → get_or (steps_of p) i no_step ≡ get_or p.steps i no_step
 unfolding steps_of

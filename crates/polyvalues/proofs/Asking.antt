@@ -2,20 +2,19 @@
 use mathlib.Core.Path.{◌≡◌, refl, sym, ◌∙◌}
 use mathlib.Core.Bool.{true, false, cond}
 use mathlib.Core.List.{List, [], ◌∷◌}
-use Prim.Native.Nat.{ℕ, suc, ◌+◌, ◌^◌, ◌<◌, ◌≤◌}
+use Prim.Native.Nat.{ℕ, ◌+◌, ◌^◌, ◌<◌, ◌≤◌}
 use native.Mathlib.Nat.{zero-add}
-use native.Mathlib.Numerals.{add-one}
 use native.Mathlib.Omega.{arith}
 use lib.Dec.{eqb}
 use lib.IntN.{ℤ}
-use lib.ListN.{length, get_or, drop}
-use lib.Seq.{drop-cons, drop-length}
+use lib.ListN.{length, drop}
+use lib.Seq.{drop-length}
 use borrow.Author.Tests.{eqb-true, eqb-false, ne_eqb, lt-ltb, le-ltb}
 use Rattle.std.specs.Prelude.{Option, Some, None, is_some}
 use Rattle.conditions.specs.Places.{places}
 use Rattle.conditions.proofs.Laws.Below.{by_cases}
 use Rattle.polyvalues.specs.declared.polyvalue.Pair.{Pair}
-use Rattle.polyvalues.specs.Pairs.{no_pair, applies, at, hits, asked}
+use Rattle.polyvalues.specs.Pairs.{applies, at, hits, asked}
 
 -- what is asked of the pairs that are left, where the pairs before them found the value of one that applies, or none
 abbrev pub left : Option ℤ → List Pair → ℕ → Option ℤ
@@ -52,22 +51,6 @@ left-none : (f : Option ℤ) (a : ℕ) → left f [] a ≡ f
 left-none None a = refl
 left-none (Some v) a = refl
 
-left-head : (f : Option ℤ) (p : Pair) (ps : List Pair) (a : ℕ)
-    → cond (applies p a) (cond (is_some f) None (left (Some p.value) ps a)) (left f ps a) ≡ left f (p ∷ ps) a
-left-head f p ps a =
-    by_cases (applies p a)
-    (λ t. by_cases (is_some f)
-    (λ s. rw (t, s) (sym (left-second f p ps a s t)))
-    (λ s. rw (t, s) (sym (left-first f p ps a s t))))
-    (λ t. rw t (sym (left-other f p ps a t)))
-
--- ---- at the row i of a list
-
--- one that does not apply leaves what was found, the first that applies is found, and a second is refused
-pub left-next : (ps : List Pair) (i a : ℕ) (f : Option ℤ) → i < length ps
-    → cond (applies (get_or ps i no_pair) a) (cond (is_some f) None (left (Some (get_or ps i no_pair).value) (drop (i + 1) ps) a)) (left f (drop (i + 1) ps) a)
-    ≡ left f (drop i ps) a
-left-next ps i a f h = rw (add-one, drop-cons ps i no_pair h) (left-head f (get_or ps i no_pair) (drop (suc i) ps) a)
-
+-- at the end of a list what is left is what was found
 pub left_end : (ps : List Pair) (i a : ℕ) (f : Option ℤ) → i ≡ length ps → left f (drop i ps) a ≡ f
 left_end ps i a f e = rw (e, drop-length ps) (left-none f a)

@@ -11,8 +11,8 @@ use crate::value::equal;
 
 impl Polyvalue {
     // Whether two polyvalues are the same pairs.
-    // kept: the definition is of the rows in use; == compares those past the count too. Inlined, where the
-    // counts are known it compares whole arrays, as == does.
+    // kept: the definition is of the rows in use; == compares those past the count too. Inlined, since
+    // soundness asks it of every item of an idle district, with counts that are known there.
     #[inline(always)]
     pub fn same(self, other: Polyvalue) -> bool
         ensures { result ≡ same (in_use self) (in_use other) }

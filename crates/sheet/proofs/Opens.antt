@@ -5,10 +5,10 @@ use Prim.Native.Nat.{ℕ, ◌≤◌, ◌<◌}
 use lib.ListN.{length}
 use borrow.Author.Tests.{lt-ltb, le-ltb}
 use Rattle.std.specs.Prelude.{Ok}
-use Rattle.book.specs.declared.Refusal.TheVariants.{Malformed, TooLong}
+use Rattle.book.specs.declared.Refusal.TheVariants.{TooLong}
 use Rattle.book.specs.declared.Book.{Book}
 use Rattle.book.specs.Open.{opened}
-use Rattle.sheet.specs.Readers.{wrong, right}
+use Rattle.sheet.specs.Readers.{right}
 use Rattle.sheet.specs.Sections.{Sheet, sheet}
 use Rattle.sheet.specs.Open.{most_bytes, refused, opened_sheet, open_sheet}
 
@@ -18,10 +18,6 @@ module _ (w : ℕ) (s : List ℕ) where
   sheet-too_long h = rw (lt-ltb most_bytes (length s) h)
 
 module _ (w : ℕ) (s : List ℕ) (few : length s ≤ most_bytes) where
-  pub malformed : {place : ℕ} → sheet s ≡ wrong place → refused w Malformed place ≡ open_sheet w s
-  unfolding open_sheet opened_sheet
-  malformed e = rw (le-ltb most_bytes (length s) few, e)
-
   pub good : (x : Sheet) (at : ℕ) {rest : List ℕ} {b : Book} → sheet s ≡ right x at rest → b ≡ opened w x.districts x.items
       → record { answer = Ok tt; place = 0; book = b; first = x.events.first; count = x.events.count } ≡ open_sheet w s
   unfolding open_sheet opened_sheet

@@ -18,22 +18,12 @@ use Rattle.sheet.proofs.Laws.Open.{no_read}
 
 -- ---- a byte
 
--- what a byte of any kind tells of one that has to pass a test
+-- where no byte is, none passes a test
 module _ (test : ℕ → Bool) (at : ℕ) where
   pub no_byte : (l : List ℕ) {place : ℕ} → byte any at l ≡ wrong place → byte test at l ≡ wrong place
   unfolding byte
   no_byte [] e = e
   no_byte (b ∷ l) e = no_read (sym e)
-
-  pub good-byte : (l : List ℕ) {b next : ℕ} {rest : List ℕ} → byte any at l ≡ right b next rest → test b ≡ true → byte test at l ≡ right b next rest
-  unfolding byte
-  good-byte [] e t = no_read e
-  good-byte (c ∷ l) {b} e t = let same : c ≡ b = cc in rw (same, t) (cc)
-
-  pub bad-byte : (l : List ℕ) {b next : ℕ} {rest : List ℕ} → byte any at l ≡ right b next rest → test b ≡ false → byte test at l ≡ wrong at
-  unfolding byte
-  bad-byte [] e t = no_read e
-  bad-byte (c ∷ l) {b} e t = let same : c ≡ b = cc in rw (same, t)
 
 -- a byte that has to pass a test is any byte, and then the test
 pub tested_byte : (test : ℕ → Bool) (at : ℕ) (l : List ℕ) → byte test at l ≡ and_then (byte any at l) (λ b next rest. cond (test b) (right b next rest) (wrong at))
@@ -70,25 +60,10 @@ drop-two s at h =
 abbrev pub word_at : List ℕ → ℕ → ℕ
 word_at s at = get_or s at 0 * 2 ^ 8 + get_or s (at + 1) 0
 
-module _ (test : ℕ → Bool) where
-  word-few : (at : ℕ) (l : List ℕ) → length l < 2 → word test at l ≡ wrong (at + length l)
+module _ (test : ℕ → Bool) (s : List ℕ) (at : ℕ) (h : 2 ≤ length s - at) where
+  pub word_good : test (word_at s at) ≡ true → word test at (drop at s) ≡ right (word_at s at) (at + 2) (drop (at + 2) s)
   unfolding word
-  word-few at [] h = ap wrong (omega arith)
-  word-few at (b ∷ []) h = refl
-  word-few at (b ∷ c ∷ l) h = absurd (omega arith)
-
-  module _ (s : List ℕ) (at : ℕ) where
-    pub word-short : {left : ℕ} → left ≡ length s - at → left < 2 → word test at (drop at s) ≡ wrong (at + left)
-    word-short e h = word-few at (drop at s) (simp length-drop (omega arith)) ∙ ap (λ (n : ℕ). wrong (at + n)) (length-drop at s ∙ sym e)
-
-    module _ (h : 2 ≤ length s - at) where
-      pub word_good : test (word_at s at) ≡ true → word test at (drop at s) ≡ right (word_at s at) (at + 2) (drop (at + 2) s)
-      unfolding word
-      word_good e = rw (drop-two s at h, e)
-
-      word-bad : test (word_at s at) ≡ false → word test at (drop at s) ≡ wrong at
-      unfolding word
-      word-bad e = rw (drop-two s at h, e)
+  word_good e = rw (drop-two s at h, e)
 
 -- ---- two bytes
 

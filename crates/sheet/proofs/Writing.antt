@@ -8,12 +8,12 @@ use Prim.Native.Char.{code}
 use native.Mathlib.Omega.{arith}
 use lib.ListN.{length, take, drop, length-append, length-drop, drop_of_length-le}
 use lib.Seq.{take-nil, take_all, sets, sets-eq, drop-append-add, drop-drop}
-use borrow.Author.Tests.{le-leb, lt-leb, leb-true, leb-false}
+use borrow.Author.Tests.{le-leb, leb-true, leb-false}
 use borrow.Rule.Slice.PartMut.{put_mid}
 use Rattle.conditions.proofs.Laws.Below.{by_cases}
-use Rattle.std.specs.Prelude.{Ok, Err}
+use Rattle.std.specs.Prelude.{Ok}
 use Rattle.conditions.specs.Text.{bytes, decimal, prefixed, joined}
-use Rattle.conditions.specs.Written.{no_room, written, Put}
+use Rattle.conditions.specs.Written.{written, Put}
 use Rattle.conditions.proofs.Laws.Text.{decimal-some, decimal-le, decimal-one, prefixed-snoc}
 use Rattle.conditions.proofs.Putting.{put-length, put_then, put_written}
 use Rattle.book.specs.Answers.{Answer, answer_number, accepted}
@@ -109,10 +109,6 @@ line-written p h = (omega (arith, p.ends), put_written (omega arith) p)
 
 -- what is answered of it
 module _ (l t : List ℕ) where
-  pub line-short : length l < longest_line → (Err no_room ≡ line_answer l t) × (l ≡ line_written l t)
-  unfolding line_answer line_written
-  line-short h = let short = lt-leb longest_line (length l) h in (rw short, rw short)
-
   pub line-given : {m : List ℕ} {end : ℕ} → longest_line ≤ length l → Put l m 0 end t → end ≤ length l → (Ok end ≡ line_answer l t) × (m ≡ line_written l t)
   unfolding line_answer line_written
   line-given {m} {end} h p k =
